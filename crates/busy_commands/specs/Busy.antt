@@ -28,8 +28,11 @@ BusyRun w (request.Serve serving now) spool spool_after out out_after before aft
 BusyRun w _ spool spool_after out out_after before after disks disks_after answer = ⊥
 
 -- The arguments ask for such a request, which is done. Or they ask for none; then the status says so, and nothing else is done.
+-- Or there was no memory to read them; then too nothing else is done.
 pub data IsBusyRun {D : Type 0} (w : DiskSight D) (words : List (List ℕ)) (spool spool_after out out_after : Stream) (before after : FrontAndPatterns) (disks disks_after : Disks D) (answer : Status) : Type 0 where
   runs : (asked : Request) → IsRequest words asked → BusyRun w asked spool spool_after out out_after before after disks disks_after answer
       → IsBusyRun w words spool spool_after out out_after before after disks disks_after answer
   refuses : ((asked : Request) → IsRequest words asked → IsBusy asked → ⊥) → answer ≡ status.Usage → spool_after ≡ spool → out_after ≡ out → after ≡ before → disks_after ≡ disks
+      → IsBusyRun w words spool spool_after out out_after before after disks disks_after answer
+  unread : answer ≡ status.Memory → spool_after ≡ spool → out_after ≡ out → after ≡ before → disks_after ≡ disks
       → IsBusyRun w words spool spool_after out out_after before after disks disks_after answer

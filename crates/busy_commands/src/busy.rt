@@ -17,8 +17,9 @@ use std::alloc::Global;
 use std::sync::Wait;
 use std::thread::Threads;
 
-/// Does what the arguments ask for, if that is `run` or `serve`. All other arguments are a usage error. No contract says that it
-/// returns: `run` waits for its workers, and serving waits for connections.
+/// Does what the arguments ask for, if that is `run` or `serve`. All other arguments are a usage error. Without memory to read
+/// them the end is [`Status::Memory`], and nothing is done. No contract says that it returns: `run` waits for its workers, and
+/// serving waits for connections.
 pub fn run_busy<
     S: Source + Drop,
     O: Sink + Drop,
@@ -48,24 +49,38 @@ pub fn run_busy<
     ensures usage { result.status ≡ Status.Usage
         → (spool.new ≡ spool.old) × (out.new ≡ out.old) × (front.new ≡ front.old) × (patterns.new ≡ patterns.old) × (result.disks ≡ disks) }
 {
-    match read_words(words) {
-        Some(request) => match request {
-            Request::Run {
-                workers,
-                now,
-                serving,
-            } => match serving {
-                None => run_spool(rt, alloc, workers, now, spool, out, disks, gate),
-                Some(serving) => run_and_serve(
-                    rt, alloc, workers, now, serving, spool, out, disks, front, patterns, gate,
-                ),
+    match read_words(alloc, words) {
+        Ok(found) => match found {
+            Some(request) => match request {
+                Request::Run {
+                    workers,
+                    now,
+                    serving,
+                } => match serving {
+                    None => run_spool(rt, alloc, workers, now, spool, out, disks, gate),
+                    Some(serving) => run_and_serve(
+                        rt, alloc, workers, now, serving, spool, out, disks, front, patterns, gate,
+                    ),
+                },
+                Request::Serve { serving, now } => {
+                    serve_disks(alloc, serving, now, disks, front, patterns)
+                }
+                _ => unused(disks),
             },
-            Request::Serve { serving, now } => {
-                serve_disks(alloc, serving, now, disks, front, patterns)
-            }
-            _ => unused(disks),
+            None => unused(disks),
         },
-        None => unused(disks),
+        Err(_) => unread(disks),
+    }
+}
+
+// The end without memory to read the arguments.
+fn unread<D: Disk + Drop>(disks: Disks<D>) -> Ended<D>
+    ensures status { result.status ≡ Status.Memory }
+    ensures disks { result.disks ≡ disks }
+{
+    Ended {
+        status: Status::Memory,
+        disks,
     }
 }
 

@@ -5,9 +5,10 @@
 //! it (`core_inbox`). `specs/Busy.antt` says what each request does.
 //!
 //! Guarantees of the contracts:
-//! - [`run_busy`]: Usage comes exactly if the arguments ask for neither `run` nor `serve` (`run`, `usage`). `run` without a
-//!   port leaves front and patterns unchanged, and so does `run --serve` unless the run ends at Done. `serve` leaves spool and
-//!   output unchanged (`BusyRun`).
+//! - [`run_busy`]: Usage comes only if the arguments ask for neither `run` nor `serve`, and for those nothing but Usage or Memory
+//!   comes (`run`, `usage`). `run` without a port leaves front and patterns unchanged, and so does `run --serve` unless the run
+//!   ends at Done. `serve` leaves spool and output unchanged (`BusyRun`). Without memory to read the arguments the end is Memory,
+//!   and nothing is changed.
 //! - Connections are served as `serve_links` of `core_inbox` says, on the port of the arguments (`ServedOn`).
 //! - In the end each image stands for the history and the commands with receipts, in order (`ServesHistory`). If the queue's
 //!   log went down, an image may have one record more.

@@ -132,11 +132,19 @@ CalmRun w words request.Query before now disks after answer =
 CalmRun w words (request.Make seed count) before now disks after answer =
     IsMakeRun seed count before.out now.out answer × (now.spool ≡ before.spool) × (now.patterns ≡ before.patterns) × (after ≡ disks)
 
+-- There was no memory to read the arguments, and nothing is changed.
+abbrev pub IsUnread : {D : Type 0} → Outside → Outside → Disks D → Disks D → Status → Type 0
+IsUnread before now disks after answer = (answer ≡ status.Memory) × (now ≡ before) × (after ≡ disks)
+
 -- What `run_calm` ensures of its status, of the streams and patterns, and of the disks, for these arguments.
 pub record IsCalmRun {D : Type 0} (w : DiskSight D) (words : List (List ℕ)) (before now : Outside) (disks after : Disks D) (answer : Status) : Type 0 where
-  pub usage : (answer ≡ status.Usage) ↔ (¬ IsCalmCommand words)
-  pub stays : answer ≡ status.Usage → (now ≡ before) × (after ≡ disks)
-  pub run : (asked : Request) → IsRequest words asked → IsCalm asked → CalmRun w words asked before now disks after answer
+  -- Usage comes only if the arguments spell none of these commands. Then only Memory may come in its place, and nothing is changed.
+  pub usage : answer ≡ status.Usage → ¬ IsCalmCommand words
+  pub refused : ¬ IsCalmCommand words → (answer ≡ status.Usage) ⊎ (answer ≡ status.Memory)
+  pub stays : ¬ IsCalmCommand words → (now ≡ before) × (after ≡ disks)
+  -- a command that they spell is run, unless there is no memory to read them
+  pub run : (asked : Request) → IsRequest words asked → IsCalm asked
+      → CalmRun w words asked before now disks after answer ⊎ IsUnread before now disks after answer
 
 -- ---- all commands
 

@@ -1,8 +1,9 @@
 //! Runs the commands that don't wait.
-ghost use Rattle.std.specs.Prelude.{◌≡◌, ◌≢◌};
+ghost use Rattle.std.specs.Prelude.{◌≡◌, ◌≢◌, ℕ, List, Some};
 ghost use Rattle.busy_commands.specs.calm_commands.Told.{stream};
 ghost use Rattle.busy_commands.specs.calm_commands.Openings.{disk_sight_of, QueueDisksCount, StoreDisksCount};
-ghost use Rattle.busy_commands.specs.program_words.Words.{IsRequest, HasMoment};
+ghost use Rattle.busy_commands.specs.program_words.Words.{IsRequest, AsksQuery, HasMoment};
+ghost use Rattle.busy_commands.specs.program_words.Splitting.{value_word};
 ghost use Rattle.busy_commands.specs.calm_commands.Rows.{pattern_sight};
 ghost use Rattle.fleet_app.specs.Words.{IsCalm};
 ghost use Rattle.fleet_app.specs.Runs.{outside, InitRun, CalmRun, IsCalmRun};
@@ -18,11 +19,12 @@ use fleet_ports::{Disk, Disks, Sink, Source};
 use fleet_rows::Ttls;
 use json_tree::Text;
 use pattern_port::Patterns;
-use program_words::{Request, query_of, read_words};
+use program_words::{Request, asked_by};
 use std::alloc::Global;
 
 /// Runs the command that the arguments name, if it is one that doesn't wait. Those are `show`, `init`, `sweep`, `compact`,
-/// `discards`, `payload`, `query` and `make`. For other arguments it answers [`Status::Usage`] and does nothing.
+/// `discards`, `payload`, `query` and `make`. For other arguments it answers [`Status::Usage`] and does nothing. Without memory
+/// to read the arguments it answers [`Status::Memory`] and does nothing.
 ///
 /// - `show` reads the spool to its end, and applies its commands and sweeps in order to tables with the default lifetimes. Then
 ///   it prints the rows of facts of the nodes that are neither deactivated nor expired, and a line end. It writes nothing before
@@ -51,15 +53,20 @@ pub fn run_calm<S: Source + Drop, O: Sink + Drop, D: Disk + Drop, P: Patterns + 
         (pattern_sight (P.says patterns.new) (P.asked patterns.new) (P.refusals patterns.new))) disks result.disks result.status }
     ensures usage { result.status ≡ Status.Usage → (spool.new ≡ spool.old) × (out.new ≡ out.old) × (patterns.new ≡ patterns.old) }
 {
-    match read_words(words) {
-        Some(request) => {
-            if is_calm(&request) {
-                run_request(alloc, words, request, spool, out, disks, patterns)
-            } else {
-                unused(disks)
+    match asked_by(alloc, words) {
+        Ok(found) => match found {
+            Some(asked) => {
+                if is_calm(&asked.request) {
+                    run_request(
+                        alloc, words, asked.request, asked.query, spool, out, disks, patterns,
+                    )
+                } else {
+                    unused(disks)
+                }
             }
-        }
-        None => unused(disks),
+            None => unused(disks),
+        },
+        Err(_) => unread(disks),
     }
 }
 
@@ -74,17 +81,30 @@ fn unused<D: Disk + Drop>(disks: Disks<D>) -> Ended<D>
     }
 }
 
-// Runs the command of a request.
+// The end without memory to read the arguments.
+fn unread<D: Disk + Drop>(disks: Disks<D>) -> Ended<D>
+    ensures status { result.status ≡ Status.Memory }
+    ensures disks { result.disks ≡ disks }
+{
+    Ended {
+        status: Status::Memory,
+        disks,
+    }
+}
+
+// Runs the command of a request. The arguments stand in its contract alone.
 fn run_request<S: Source + Drop, O: Sink + Drop, D: Disk + Drop, P: Patterns + Drop>(
     alloc: Global,
     words: &[Text],
     request: Request,
+    query: Option<&str>,
     spool: &mut S,
     out: &mut O,
     disks: Disks<D>,
     patterns: &mut P,
 ) -> Ended<D>
     requires words { IsRequest words.now request }
+    requires query { (text : List ℕ) → AsksQuery words.now text → value_word query ≡ Some text }
     requires calm { IsCalm request }
     requires moment { HasMoment request }
     ensures run { CalmRun (disk_sight_of D.Disk) words.now request
@@ -110,8 +130,8 @@ fn run_request<S: Source + Drop, O: Sink + Drop, D: Disk + Drop, P: Patterns + D
         Request::Compact => compact_disks(alloc, disks),
         Request::Discards => print_discards(alloc, disks, out),
         Request::Payload { receipt } => print_payload(alloc, disks, receipt, out),
-        Request::Query => match query_of(words) {
-            Some(text) => print_rows(alloc, disks, text.as_str().as_bytes(), out, patterns),
+        Request::Query => match query {
+            Some(text) => print_rows(alloc, disks, text.as_bytes(), out, patterns),
             None => unreachable!(),
         },
         Request::Make { seed, count } => {

@@ -23,8 +23,10 @@
 //! - If no run begins, the status is Usage for arguments that aren't UTF-8, Memory for missing memory, and QueueFault or
 //!   StoreFault for a file that can't be opened. No disks come back, and the streams, front and patterns are unchanged
 //!   (`no_run`).
-//! - [`run_calm`] (`IsCalmRun`): Usage comes exactly if the arguments spell none of its commands. `show` and `make` leave the
-//!   disks. `init`, `sweep` and `compact` leave the streams, the other commands the spool. Only `query` touches the patterns.
+//! - [`run_calm`] (`IsCalmRun`): Usage comes only if the arguments spell none of its commands, and for those nothing but Usage
+//!   or Memory comes. Then nothing is changed. `show` and `make` leave the disks. `init`, `sweep` and `compact` leave the
+//!   streams, the other commands the spool. Only `query` touches the patterns. Without memory to read the arguments any command
+//!   ends with Memory and changes nothing (`IsUnread`).
 //! - `show` (`IsShowRun`): lifetimes are the default ones, and a command that its wire format refuses is left out. Without a
 //!   counted fault a whole spool ends with Done or Memory (`complete`). Any other spool ends with SpoolBad at its position, or
 //!   with Memory (`complete_bad`). At WriteFault a proper prefix was written (`prints_part`), at other failures nothing
@@ -32,7 +34,7 @@
 //! - `init` (`IsInitRun`): Done, QueueFault, StoreFault, AlreadyLaid or Memory, each as `lay_core` of `core_layout` says.
 //! - `make` (`IsMakeRun`): the whole text at Done, a proper prefix at WriteFault, a prefix at Memory (`prints`, `prints_part`,
 //!   `prints_front`).
-//! - [`needs_disks`]: true exactly for requests other than `show` and `make`.
+//! - [`needs_disks`]: true exactly for requests other than `show` and `make`, or want of memory.
 //!
 //! Costs and limits:
 //! - Printing the line takes no memory. Only `run` and `serve` may wait.

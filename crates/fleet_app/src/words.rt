@@ -1,17 +1,19 @@
 //! Which arguments need the files, and which commands don't wait.
-ghost use Rattle.std.specs.Prelude.{◌≡◌, ◌↔◌, IsTrue};
+ghost use Rattle.std.specs.Prelude.{◌≡◌, ◌↔◌, IfOk, IsTrue};
 ghost use Rattle.fleet_app.specs.Words.{IsCalm, NeedDisks};
 
 use json_tree::Text;
-use program_words::{Request, read_words};
+use program_words::{Memory, Request, read_words};
+use std::alloc::Global;
 
 /// Whether the arguments name a command that uses the four files.
-pub fn needs_disks(words: &[Text]) -> bool
-    ensures { IsTrue result ↔ NeedDisks words.now }
+pub fn needs_disks(alloc: Global, words: &[Text]) -> Result<bool, Memory>
+    ensures { IfOk result (λ needs. IsTrue needs ↔ NeedDisks words.now) }
 {
-    match read_words(words) {
-        Some(request) => request.uses_disks(),
-        None => false,
+    let found = read_words(alloc, words)?;
+    match found {
+        Some(request) => Ok(request.uses_disks()),
+        None => Ok(false),
     }
 }
 

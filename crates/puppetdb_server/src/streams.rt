@@ -24,8 +24,10 @@ pub(crate) fn program<R: Threads + Wait + Sync>(rt: &HostRuntime, threads: &R) -
         Ok(words) => words,
         Err(fault) => return run::<NoDisk, R>(rt, threads, Err(fault)),
     };
-    if !needs_disks(words.as_slice()) {
-        return run(rt, threads, Ok((words.as_slice(), NoDisk::four())));
+    match needs_disks(rt.alloc(), words.as_slice()) {
+        Ok(true) => {}
+        Ok(false) => return run(rt, threads, Ok((words.as_slice(), NoDisk::four()))),
+        Err(_) => return run::<NoDisk, R>(rt, threads, Err(StartFault::Memory)),
     }
     match open_files(rt) {
         Ok(disks) => run(rt, threads, Ok((words.as_slice(), disks))),

@@ -1,5 +1,6 @@
-use Rattle.std.proofs.Common.{◌∙◌, Option, Some, None, refl, ap, subst}
+use Rattle.std.proofs.Common.{◌≡◌, ◌∙◌, Option, Some, None, refl, sym, ap, subst}
 use Rattle.program_words.proofs.of_plain_laws.Options.{none_some, some_is}
+use Rattle.spool_run.specs.calm_commands.declared.status.Status.TheVariants as status
 use Rattle.spool_run.specs.calm_commands.Openings.{disk_sight}
 use Rattle.spool_run.specs.calm_commands.Rows.{pattern_sight}
 use Rattle.spool_run.specs.calm_commands.Told.{stream}
@@ -9,35 +10,35 @@ use Rattle.program_words.specs.declared.request.Serving.{Serving}
 use Rattle.program_words.proofs.Requested.{asked_run, run_alone}
 use Rattle.spool_run.proofs.RunEnds.{never_usage}
 use Rattle.busy_commands.specs.Serving.{front_sight, front_and_patterns}
-use Rattle.busy_commands.specs.Busy.{runs, refuses}
+use Rattle.busy_commands.specs.Busy.{runs, refuses, unread}
 use Rattle.busy_commands.proofs.Ends.{served_never_usage, serve_never_usage, not_busy}
 use Rattle.busy_commands.proofs.busy.run_busy.Goals as goal
 
 pub run_spool-requires-clause-some : goal.run_spool-requires-clause-some
-run_spool-requires-clause-some g c _ _ = (asked_run c.args.words.now c.in-Run.workers c.in-Run.now c.in-Run.serving (subst (IsRequest c.args.words.now) c.in-Run.is c.in-Some.ensures.some)).0
+run_spool-requires-clause-some g c _ _ = (asked_run c.args.words.now c.in-Run.workers c.in-Run.now c.in-Run.serving (subst (IsRequest c.args.words.now) c.in-Run.is (rw c.in-Some.is at c.in-Ok.ensures.some))).0
 
 pub run_spool-requires-clause-few : goal.run_spool-requires-clause-few
-run_spool-requires-clause-few g c _ _ = (asked_run c.args.words.now c.in-Run.workers c.in-Run.now c.in-Run.serving (subst (IsRequest c.args.words.now) c.in-Run.is c.in-Some.ensures.some)).1
+run_spool-requires-clause-few g c _ _ = (asked_run c.args.words.now c.in-Run.workers c.in-Run.now c.in-Run.serving (subst (IsRequest c.args.words.now) c.in-Run.is (rw c.in-Some.is at c.in-Ok.ensures.some))).1
 
 pub run_spool-requires-clause-stamp : goal.run_spool-requires-clause-stamp
-run_spool-requires-clause-stamp g c _ _ = subst HasMoment c.in-Run.is c.in-Some.ensures.moment
+run_spool-requires-clause-stamp g c _ _ = subst HasMoment c.in-Run.is (rw c.in-Some.is at c.in-Ok.ensures.moment)
 
 pub run_and_serve-requires-clause-some : goal.run_and_serve-requires-clause-some
-run_and_serve-requires-clause-some g c _ _ = (asked_run c.args.words.now c.in-Run.workers c.in-Run.now c.in-Run.serving (subst (IsRequest c.args.words.now) c.in-Run.is c.in-Some.ensures.some)).0
+run_and_serve-requires-clause-some g c _ _ = (asked_run c.args.words.now c.in-Run.workers c.in-Run.now c.in-Run.serving (subst (IsRequest c.args.words.now) c.in-Run.is (rw c.in-Some.is at c.in-Ok.ensures.some))).0
 
 pub run_and_serve-requires-clause-few : goal.run_and_serve-requires-clause-few
-run_and_serve-requires-clause-few g c _ _ = (asked_run c.args.words.now c.in-Run.workers c.in-Run.now c.in-Run.serving (subst (IsRequest c.args.words.now) c.in-Run.is c.in-Some.ensures.some)).1
+run_and_serve-requires-clause-few g c _ _ = (asked_run c.args.words.now c.in-Run.workers c.in-Run.now c.in-Run.serving (subst (IsRequest c.args.words.now) c.in-Run.is (rw c.in-Some.is at c.in-Ok.ensures.some))).1
 
 pub run_and_serve-requires-clause-stamp : goal.run_and_serve-requires-clause-stamp
-run_and_serve-requires-clause-stamp g c _ _ = subst HasMoment c.in-Run.is c.in-Some.ensures.moment
+run_and_serve-requires-clause-stamp g c _ _ = subst HasMoment c.in-Run.is (rw c.in-Some.is at c.in-Ok.ensures.moment)
 
 pub serve_disks-requires : goal.serve_disks-requires
-serve_disks-requires g c = record { stamp = subst HasMoment c.in-Serve.is c.in-Some.ensures.moment }
+serve_disks-requires g c = record { stamp = subst HasMoment c.in-Serve.is (rw c.in-Some.is at c.in-Ok.ensures.moment) }
 
 pub returns-in-None-serving-clause-run : goal.returns-in-None-serving-clause-run
 returns-in-None-serving-clause-run g c =
     let alone = run_alone c.in-Some.request c.in-Run.workers c.in-Run.now c.in-Run.serving c.in-Run.is c.in-None-serving.is in
-    runs (Run c.in-Run.workers c.in-Run.now None) (subst (IsRequest c.args.words.now) alone c.in-Some.ensures.some) (c.run_spool.ensures, refl)
+    runs (Run c.in-Run.workers c.in-Run.now None) (subst (IsRequest c.args.words.now) alone (rw c.in-Some.is at c.in-Ok.ensures.some)) (c.run_spool.ensures, refl)
 
 pub returns-in-None-serving-clause-usage : goal.returns-in-None-serving-clause-usage
 returns-in-None-serving-clause-usage g c usage =
@@ -54,7 +55,7 @@ returns-in-None-serving-clause-usage g c usage =
 pub returns-in-Some-serving-clause-run : goal.returns-in-Some-serving-clause-run
 returns-in-Some-serving-clause-run g c =
     let served = c.in-Run.is ∙ ap (λ (s : Option Serving). Run c.in-Run.workers c.in-Run.now s) c.in-Some-serving.is in
-    runs (Run c.in-Run.workers c.in-Run.now (Some c.in-Some-serving.serving)) (subst (IsRequest c.args.words.now) served c.in-Some.ensures.some) c.run_and_serve.ensures
+    runs (Run c.in-Run.workers c.in-Run.now (Some c.in-Some-serving.serving)) (subst (IsRequest c.args.words.now) served (rw c.in-Some.is at c.in-Ok.ensures.some)) c.run_and_serve.ensures
 
 pub returns-in-Some-serving-clause-usage : goal.returns-in-Some-serving-clause-usage
 returns-in-Some-serving-clause-usage g c usage =
@@ -77,7 +78,7 @@ returns-in-Some-serving-clause-usage g c usage =
 
 pub returns-in-Serve-clause-run : goal.returns-in-Serve-clause-run
 returns-in-Serve-clause-run g c =
-    runs (Serve c.in-Serve.serving c.in-Serve.now) (subst (IsRequest c.args.words.now) c.in-Serve.is c.in-Some.ensures.some) (c.serve_disks.ensures, refl, refl)
+    runs (Serve c.in-Serve.serving c.in-Serve.now) (subst (IsRequest c.args.words.now) c.in-Serve.is (rw c.in-Some.is at c.in-Ok.ensures.some)) (c.serve_disks.ensures, refl, refl)
 
 pub returns-in-Serve-clause-usage : goal.returns-in-Serve-clause-usage
 returns-in-Serve-clause-usage g c usage =
@@ -94,8 +95,14 @@ returns-in-Serve-clause-usage g c usage =
 
 pub returns-in_default-clause-run : goal.returns-in_default-clause-run
 returns-in_default-clause-run g c =
-    refuses (λ asked is busy. not_busy c.in-Some.request asked (some_is c.in-Some.request asked (c.in-Some.ensures.every asked is)) c.in_default.not-Run c.in_default.not-Serve busy) c.unused.ensures.status refl refl refl c.unused.ensures.disks
+    refuses (λ asked is busy. not_busy c.in-Some.request asked (some_is c.in-Some.request asked (rw c.in-Some.is at c.in-Ok.ensures.every asked is)) c.in_default.not-Run c.in_default.not-Serve busy) c.unused.ensures.status refl refl refl c.unused.ensures.disks
 
 pub returns-in-None-clause-run : goal.returns-in-None-clause-run
 returns-in-None-clause-run g c =
-    refuses (λ asked is busy. none_some asked (c.in-None.ensures.every asked is)) c.unused-in-None.ensures.status refl refl refl c.unused-in-None.ensures.disks
+    refuses (λ asked is busy. none_some asked (rw c.in-None.is at c.in-Ok.ensures.every asked is)) c.unused-in-None.ensures.status refl refl refl c.unused-in-None.ensures.disks
+
+pub returns-in-Err-clause-run : goal.returns-in-Err-clause-run
+returns-in-Err-clause-run g c = unread c.unread.ensures.status refl refl refl c.unread.ensures.disks
+
+pub returns-in-Err-clause-usage : goal.returns-in-Err-clause-usage
+returns-in-Err-clause-usage g c usage = (let apart : status.Memory ≡ status.Usage = sym c.unread.ensures.status ∙ usage in absurd (cc))

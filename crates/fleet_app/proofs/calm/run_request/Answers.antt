@@ -1,5 +1,5 @@
 use Rattle.std.proofs.Common.{◌∙◌, ◌≡◌, ⊎_elim, refl, sym, subst, List, ℕ}
-use Rattle.busy_commands.proofs.of_plain_laws.Options.{none_some}
+use Rattle.busy_commands.proofs.of_plain_laws.Options.{none_some, some_is}
 use Rattle.busy_commands.specs.program_words.declared.request.Request.{Request}
 use Rattle.busy_commands.specs.program_words.declared.request.Request.TheVariants as request
 use Rattle.busy_commands.specs.program_words.Words.{IsRequest, HasMoment}
@@ -11,7 +11,7 @@ use Rattle.busy_commands.specs.calm_commands.Compacting.{IsCompactEnd}
 use Rattle.busy_commands.specs.calm_commands.Rows.{pattern_sight, IsRowsEnd, IsQueryRun}
 use Rattle.fleet_app.specs.Words.{IsCalm}
 use Rattle.fleet_app.specs.Runs.{outside, IsShowEnd, IsInitEnd, IsMakeEnd, CalmRun}
-use Rattle.program_words.proofs.Requested.{query_asks, one_query}
+use Rattle.program_words.proofs.Requested.{query_asks}
 use Rattle.fleet_app.proofs.calm.run_request.Goals as goal
 
 pub returns-in-Show-clause-run : goal.returns-in-Show-clause-run
@@ -120,7 +120,7 @@ unreachable-requires-in-Serve g c = subst IsCalm c.in-Serve.is c.requires.calm
 pub unreachable-requires-in-None : goal.unreachable-requires-in-None
 unreachable-requires-in-None g c =
     let query = query_asks c.args.words.now (subst (IsRequest c.args.words.now) c.in-Query.is c.requires.words) in
-    none_some query.0 (c.in-None.ensures.every query.0 query.1)
+    none_some query.0 (rw c.in-None.is at c.requires.query query.0 query.1)
 
 pub returns-in-Some-clause-run : goal.returns-in-Some-clause-run
 returns-in-Some-clause-run g c =
@@ -140,9 +140,9 @@ returns-in-Some-clause-run g c =
     let after = c.print_rows.result.disks in
     let answer = c.print_rows.result.status in
     let asked = c.in-Some.text.now in
-    let bytes : c.as_bytes.result.now ≡ asked = c.as_bytes.ensures.value ∙ c.as_str.ensures in
+    let bytes : c.as_bytes.result.now ≡ asked = c.as_bytes.ensures.value in
     let run : CalmRun w words request.Query (outside spool out patterns) (outside spool out_after patterns_after) at.disks after answer = λ text is. (
-      subst (λ (t : List ℕ). IsQueryRun w t patterns patterns_after out out_after at.disks after answer) (bytes ∙ one_query words asked text c.in-Some.ensures.some is) c.print_rows.ensures,
+      subst (λ (t : List ℕ). IsQueryRun w t patterns patterns_after out out_after at.disks after answer) (bytes ∙ some_is asked text (rw c.in-Some.is at c.requires.query text is)) c.print_rows.ensures,
       refl,
     ) in
     subst (λ (r : Request). CalmRun w words r (outside spool out patterns) (outside spool out_after patterns_after) at.disks after answer) (sym c.in-Query.is) run

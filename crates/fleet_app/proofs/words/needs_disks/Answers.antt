@@ -6,12 +6,12 @@ use Rattle.fleet_app.proofs.words.needs_disks.Goals as goal
 
 pub returns-in-Some : goal.returns-in-Some
 returns-in-Some c = (
-  λ told. (c.in-Some.request, c.in-Some.ensures.some, subst IsTrue c.uses_disks.ensures told),
-  λ need. subst IsTrue (sym (c.uses_disks.ensures ∙ ap uses_disks (some_is c.in-Some.request need.0 (c.in-Some.ensures.every need.0 need.1)))) need.2,
+  λ told. (c.in-Some.request, rw c.in-Some.is at c.in_ok-found.ensures.some, subst IsTrue c.uses_disks.ensures told),
+  λ need. subst IsTrue (sym (c.uses_disks.ensures ∙ ap uses_disks (some_is c.in-Some.request need.0 (rw c.in-Some.is at c.in_ok-found.ensures.every need.0 need.1)))) need.2,
 )
 
 pub returns-in-None : goal.returns-in-None
 returns-in-None c = (
   λ told. absurd (cc),
-  λ need. none_some need.0 (c.in-None.ensures.every need.0 need.1),
+  λ need. none_some need.0 (rw c.in-None.is at c.in_ok-found.ensures.every need.0 need.1),
 )
