@@ -1,113 +1,96 @@
 //! Tables take memory for large inputs: want of memory is an answer that no contract refuses.
-use crate::fleet::{Fleet, append, join, same};
-use command_decode::fleet_rows::{Entity, Kind};
-use std::alloc::Global;
-use std::process::Abort;
-use std::test::Fail;
+use crate::play::Fleet;
+use command_decode::fleet_rows::Kind;
+use std::alloc::{AllocError, Global};
 
-const FACTS: u32 = 100_000;
-
-const RESOURCES: u32 = 20_000;
-
-const NODES: u32 = 10_000;
-
-// Six digits, that descend as the number rises.
-fn append_digits(out: &mut Vec<u8>, alloc: Global, number: u32) -> Result<(), Fail> {
-    let digits = format!(in alloc; "{}", 999_999u32.saturating_sub(number))?;
-    Ok(append(out, &[digits.as_str()])?)
-}
-
-// So many pieces with commas between them, each with its digits between two texts.
-fn append_pieces(
+// Appends the text, with six digits in the place of each bar. They descend as the number rises.
+fn put_numbered(
     out: &mut Vec<u8>,
     alloc: Global,
-    before: &str,
-    behind: &str,
+    text: &str,
+    number: u32,
+) -> Result<(), AllocError> {
+    let digits = format!(in alloc; "{}", 999_999u32.saturating_sub(number))?;
+    for (place, part) in text.split('|').enumerate() {
+        if place > 0 {
+            out.extend_from_slice(digits.as_bytes())?;
+        }
+        out.extend_from_slice(part.as_bytes())?;
+    }
+    Ok(())
+}
+
+// Pieces with commas between them, in a text that goes on with them.
+fn pieces(
+    alloc: Global,
+    front: &str,
+    piece: &str,
     count: u32,
-) -> Result<(), Fail> {
+    end: &str,
+) -> Result<Vec<u8>, AllocError> {
+    let mut out = Vec::new(alloc);
+    out.extend_from_slice(front.as_bytes())?;
     for number in 0..count {
         if number > 0 {
             out.push(b',')?;
         }
-        append(out, &[before])?;
-        append_digits(out, alloc, number)?;
-        append(out, &[behind])?;
+        put_numbered(&mut out, alloc, piece, number)?;
     }
-    Ok(())
+    out.extend_from_slice(end.as_bytes())?;
+    Ok(out)
 }
 
-fn facts(alloc: Global) -> Result<Vec<u8>, Fail> {
-    let front = r#"{"certname":"a","producer_timestamp":"2024-05-01T10:00:00Z","values":{"#;
-    let mut payload = join(alloc, &[front])?;
-    append_pieces(&mut payload, alloc, "\"f", "\":1", FACTS)?;
-    append(&mut payload, &["}}"])?;
-    Ok(payload)
-}
+const FACTS: &str = r#"{"certname":"a","producer_timestamp":"2024-05-01T10:00:00Z","values":{"#;
 
-fn catalog(alloc: Global) -> Result<Vec<u8>, Fail> {
-    let front =
-        r#"{"certname":"a","producer_timestamp":"2024-05-01T10:00:00Z","version":"1","edges":[],"resources":["#;
-    let mut payload = join(alloc, &[front])?;
-    append_pieces(
-        &mut payload,
-        alloc,
-        r#"{"type":"File","title":"/"#,
-        "\"}",
-        RESOURCES,
-    )?;
-    append(&mut payload, &["]}"])?;
-    Ok(payload)
-}
+const CATALOG: &str =
+    r#"{"certname":"a","producer_timestamp":"2024-05-01T10:00:00Z","version":"1","edges":[],"resources":["#;
+
+const NODE: &str = r#"{"certname":"n|","producer_timestamp":"2024-05-01T10:00:00Z"}"#;
 
 // Deactivations of nodes.
-fn send_nodes(fleet: &mut Fleet) -> Result<(), Fail> {
-    for number in 0..NODES {
-        let mut payload = join(fleet.alloc, &["{\"certname\":\"n"])?;
-        append_digits(&mut payload, fleet.alloc, NODES - 1 - number)?;
-        let behind = r#"","producer_timestamp":"2024-05-01T10:00:00Z"}"#;
-        append(&mut payload, &[behind])?;
-        fleet.send(Kind::Deactivate, None, payload.as_slice())?;
+fn send_nodes(alloc: Global, fleet: &mut Fleet, count: u32) -> Result<bool, AllocError> {
+    let mut are_sent = true;
+    for number in 0..count {
+        let mut payload = Vec::new(alloc);
+        put_numbered(&mut payload, alloc, NODE, count - 1 - number)?;
+        are_sent &= fleet.send(
+            Kind::Deactivate,
+            3 + number as u64,
+            None,
+            payload.as_slice(),
+        );
     }
-    Ok(())
+    Ok(are_sent)
 }
 
-fn is_line(
-    rt: &impl Abort,
-    fleet: &Fleet,
-    entity: Entity,
-    i: usize,
-    wanted: &str,
-) -> Result<(), Fail> {
-    let line = fleet.line(entity, i)?;
-    same(rt, "a large input", line.as_slice(), wanted.as_bytes());
-    Ok(())
-}
+const ROWS: &str = r#"count facts 100000
+count resources 20000
+count nodes 10001
+row facts 0
+| "a" null "f900000" 1
+row facts 99999
+| "a" null "f999999" 1
+row resources 19999
+| "a" null false null null {} "c5474b1926653b68ca336f40a43754c1e3187b97" [] "/999999" "File"
+row nodes 1
+| null null "n990000" 2024-05-01T10:00:00.000000000Z null null null null null null null null
+end"#;
 
 #[test]
-fn large_inputs_find_memory(rt: HostRuntime) -> Result<(), Fail> {
-    let mut fleet = Fleet::new(rt.alloc(), None);
-    fleet.send(Kind::Facts, None, facts(rt.alloc())?.as_slice())?;
-    fleet.send(Kind::Catalog, None, catalog(rt.alloc())?.as_slice())?;
-    send_nodes(&mut fleet)?;
+fn large_inputs_find_memory(rt: HostRuntime) -> Result<(), AllocError> {
+    let alloc = rt.alloc();
+    let mut fleet = Fleet::new(alloc, None);
+    let facts = pieces(alloc, FACTS, r#""f|":1"#, 100_000, "}}")?;
+    assert!(rt; fleet.send(Kind::Facts, 1, None, facts.as_slice()));
+    let catalog = pieces(
+        alloc,
+        CATALOG,
+        r#"{"type":"File","title":"/|"}"#,
+        20_000,
+        "]}",
+    )?;
+    assert!(rt; fleet.send(Kind::Catalog, 2, None, catalog.as_slice()));
+    assert!(rt; send_nodes(alloc, &mut fleet, 10_000)?);
     fleet.tables.prepare_all()?;
-    assert_eq!(rt; fleet.tables.count(Entity::Facts), 100_000);
-    assert_eq!(rt; fleet.tables.count(Entity::Resources), 20_000);
-    assert_eq!(rt; fleet.tables.count(Entity::Nodes), 10_001);
-    for (entity, i, wanted) in [
-        (Entity::Facts, 0, "\"a\" null \"f900000\" 1\n"),
-        (Entity::Facts, 99_999, "\"a\" null \"f999999\" 1\n"),
-        (
-            Entity::Resources,
-            19_999,
-            "\"a\" null false null null {} \"c5474b1926653b68ca336f40a43754c1e3187b97\" [] \"/999999\" \"File\"\n",
-        ),
-        (
-            Entity::Nodes,
-            1,
-            "null null \"n990000\" 2024-05-01T10:00:00.000000000Z null null null null null null null null\n",
-        ),
-    ] {
-        is_line(&rt, &fleet, entity, i, wanted)?;
-    }
-    Ok(())
+    fleet.play(&rt, ROWS)
 }

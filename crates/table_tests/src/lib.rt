@@ -1,10 +1,8 @@
 //! Tests of `row_cells`, `fleet_tables` and `ttl_sweeps`: the rows of small fleets cell by cell, the edges of ranks, lifetimes
 //! and limits, what tables list and what a list leads to, generated histories beside a plain program that goes by the
-//! definitions, and inputs that are large. There is nothing here but tests.
+//! definitions, and inputs that are large. Most cases are lines of text (`play.rt`). There is nothing here but tests.
 #![tactic(auto)]
 
-#[cfg(test)]
-mod fleet;
 #[cfg(test)]
 mod histories;
 #[cfg(test)]
@@ -16,12 +14,12 @@ mod lists;
 #[cfg(test)]
 mod plain;
 #[cfg(test)]
+mod plain_rows;
+#[cfg(test)]
+mod play;
+#[cfg(test)]
 mod ranks;
 #[cfg(test)]
 mod reports;
 #[cfg(test)]
-mod script;
-#[cfg(test)]
 mod small_fleet;
-#[cfg(test)]
-mod texts;

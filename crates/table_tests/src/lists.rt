@@ -2,92 +2,64 @@
 ghost use Rattle.std.specs.Prelude.{OnOk, IfOk};
 ghost use Rattle.ttl_sweeps.specs.fleet_tables.Listed.{IsLawfulList};
 
-use crate::fleet::{Fleet, REPORTS, change, moment, payload};
-use crate::script::Step::{Begin, Lists, Send, Sweep};
-use crate::script::{ONE, Step, TWO, play};
-use command_decode::fleet_rows::{
-    Applied, Entity, Kepts, Kind, Mark, Marks, Rank, StoreList, Ttls,
-};
+use crate::play::{Fleet, change_of, play};
+use command_decode::fleet_rows::{Applied, Kepts, Kind, Mark, Marks, StoreList, Ttls};
 use command_decode::json_tree::Text;
-use std::alloc::Global;
+use stamp_time::read_stamp;
+use std::alloc::{AllocError, Global};
 use std::test::Fail;
 use ttl_sweeps::fleet_tables::Tables;
 
-const TEN: &str = "2024-05-01T10:00:00Z";
-
-const BEFORE_TEN: &str = "2024-05-01T09:59:59.999999999Z";
-
-const DAY_3: &str = "2024-05-03T00:00:00Z";
-
-const DAY_9: &str = "2024-05-09T00:00:00Z";
-
-const DAY_20: &str = "2024-05-20T00:00:00Z";
-
-const CHANGED: &str = r#","status":"changed""#;
-
-const FAILED: &str = r#","status":"failed""#;
-
-const STEPS: &[Step] = &[
-    Begin("the newest command of each kind is listed, and the reports by rank"),
-    Send(Kind::Report, "b", TEN, FAILED),
-    Send(Kind::Report, "b", TEN, CHANGED),
-    Send(Kind::Report, "b", BEFORE_TEN, FAILED),
-    Send(Kind::Facts, "b", TEN, ONE),
-    Send(Kind::Facts, "b", BEFORE_TEN, TWO),
-    Send(Kind::Deactivate, "b", BEFORE_TEN, ""),
-    Lists(
-        &[
-            "null null",
-            "b 2024-05-01T10:00:00.000000000Z 2024-05-01T09:59:59.999999999Z",
-        ],
-        &[4, 6, 3, 1, 2],
-    ),
-    Begin("nodes are listed by certname, also one of which no command is left"),
-    Send(Kind::Deactivate, "c", TEN, ""),
-    Send(Kind::Report, "a", TEN, ""),
-    Sweep(REPORTS, DAY_20),
-    Lists(
-        &[
-            "null 2024-05-20T00:00:00.000000000Z",
-            "a 2024-05-01T10:00:00.000000000Z null",
-            "c null 2024-05-01T10:00:00.000000000Z",
-        ],
-        &[1],
-    ),
-];
+const FLEETS: &str = r#"fleet the newest command of each kind is listed, and the reports by rank
+report 1 {"certname":"b","producer_timestamp":"2024-05-01T10:00:00Z","status":"failed"}
+report 2 {"certname":"b","producer_timestamp":"2024-05-01T10:00:00Z","status":"changed"}
+report 3 {"certname":"b","producer_timestamp":"2024-05-01T09:59:59.999999999Z","status":"failed"}
+facts 4 {"certname":"b","producer_timestamp":"2024-05-01T10:00:00Z","values":{"n":1}}
+facts 5 {"certname":"b","producer_timestamp":"2024-05-01T09:59:59.999999999Z","values":{"n":2}}
+deactivate 6 {"certname":"b","producer_timestamp":"2024-05-01T09:59:59.999999999Z"}
+list
+| null null
+| b 2024-05-01T10:00:00.000000000Z 2024-05-01T09:59:59.999999999Z
+| receipts 4 6 3 1 2
+fleet nodes are listed by certname, also one of which no command is left
+deactivate 1 {"certname":"c","producer_timestamp":"2024-05-01T10:00:00Z"}
+report 2 {"certname":"a","producer_timestamp":"2024-05-01T10:00:00Z"}
+retain 2024-05-20T00:00:00Z
+list
+| null 2024-05-20T00:00:00.000000000Z
+| a 2024-05-01T10:00:00.000000000Z null
+| c null 2024-05-01T10:00:00.000000000Z
+| receipts 1
+end"#;
 
 #[test]
-fn tables_list_what_they_hold(rt: HostRuntime) -> Result<(), Fail> {
-    play(&rt, rt.alloc(), STEPS)
+fn tables_list_what_they_hold(rt: HostRuntime) -> Result<(), AllocError> {
+    play(&rt, rt.alloc(), FLEETS)
 }
 
 // A list of no node, with the lifetimes of all tests, a sweep of expiry and one of reports.
-fn swept(alloc: Global) -> Result<StoreList, Fail>
-    ensures { IfOk result IsLawfulList }
+fn swept(alloc: Global) -> StoreList
+    ensures { IsLawfulList result }
 {
-    Ok(StoreList {
-        ttls: Ttls {
-            node_days: 7,
-            purge_days: 14,
-            report_days: 14,
-            report_count: None,
-        },
-        expire: Some(moment(DAY_9)?),
-        retain: Some(moment(DAY_20)?),
+    StoreList {
+        ttls: Ttls::default_lifetimes(),
+        expire: read_stamp("2024-05-09T00:00:00Z"),
+        retain: read_stamp("2024-05-20T00:00:00Z"),
         marks: Marks::new(alloc),
         applied: Kepts::new(alloc),
-    })
+    }
 }
 
 // The list gets a node with that activity.
-fn mark(list: &mut StoreList, alloc: Global, certname: &str, active: &str) -> Result<(), Fail>
+fn mark(list: &mut StoreList, alloc: Global, certname: &str, active: &str) -> Result<(), AllocError>
     requires { IsLawfulList list.old }
     ensures { OnOk result (IsLawfulList list.new) }
 {
-    let active = moment(active)?;
+    let certname = Text::from_str(alloc, certname)?;
+    let active = read_stamp(active);
     list.marks.push(Mark {
-        certname: Text::from_str(alloc, certname)?,
-        active: Some(active),
+        certname,
+        active,
         deactivated: None,
     })?;
     Ok(())
@@ -99,15 +71,14 @@ fn put(
     alloc: Global,
     receipt: u64,
     kind: Kind,
-    certname: &str,
-    at: &str,
-    fields: &str,
+    payload: &str,
 ) -> Result<(), Fail>
     requires { IsLawfulList list.old }
     ensures { OnOk result (IsLawfulList list.new) }
 {
-    let payload = payload(alloc, certname, at, &[fields])?;
-    let change = change(alloc, kind, payload.as_slice())?;
+    let Some(change) = change_of(alloc, kind, payload.as_bytes()) else {
+        return Err("refused".into());
+    };
     list.applied.push(Applied {
         receipt,
         received: None,
@@ -116,39 +87,35 @@ fn put(
     Ok(())
 }
 
-fn listed(alloc: Global) -> Result<StoreList, Fail>
-    ensures { IfOk result IsLawfulList }
-{
-    let mut list = swept(alloc)?;
-    mark(&mut list, alloc, "a", DAY_3)?;
-    mark(&mut list, alloc, "b", TEN)?;
-    put(&mut list, alloc, 3, Kind::Facts, "a", TEN, ONE)?;
-    put(&mut list, alloc, 1, Kind::Facts, "b", TEN, ONE)?;
-    put(&mut list, alloc, 5, Kind::Report, "a", TEN, "")?;
-    Ok(list)
+const FACTS_OF_A: &str =
+    r#"{"certname":"a","producer_timestamp":"2024-05-01T10:00:00Z","values":{"n":1}}"#;
+
+const FACTS_OF_B: &str =
+    r#"{"certname":"b","producer_timestamp":"2024-05-01T10:00:00Z","values":{"n":1}}"#;
+
+const REPORT_OF_A: &str = r#"{"certname":"a","producer_timestamp":"2024-05-01T10:00:00Z"}"#;
+
+fn of_list(alloc: Global) -> Result<Tables, Fail> {
+    let mut list = swept(alloc);
+    mark(&mut list, alloc, "a", "2024-05-03T00:00:00Z")?;
+    mark(&mut list, alloc, "b", "2024-05-01T10:00:00Z")?;
+    put(&mut list, alloc, 3, Kind::Facts, FACTS_OF_A)?;
+    put(&mut list, alloc, 1, Kind::Facts, FACTS_OF_B)?;
+    put(&mut list, alloc, 5, Kind::Report, REPORT_OF_A)?;
+    Ok(Tables::from_list(alloc, &list)?)
 }
 
-fn of_list(alloc: Global) -> Result<Fleet, Fail> {
-    let list = listed(alloc)?;
-    Ok(Fleet {
-        alloc,
-        tables: Tables::from_list(alloc, &list)?,
-        next: 6,
-    })
-}
+const SHOWN: &str = r#"active a
+inactive b
+count factsets 2
+count reports 0
+newest facts a
+| 2024-05-01T10:00:00.000000000Z 3
+end"#;
 
 // A node whose mark is later than all of its commands isn't expired, and a report that is older than its lifetime isn't kept.
 #[test]
 fn a_list_leads_to_its_tables(rt: HostRuntime) -> Result<(), Fail> {
-    let fleet = of_list(rt.alloc())?;
-    assert!(rt; !fleet.is_inactive("a")?);
-    assert!(rt; fleet.is_inactive("b")?);
-    assert_eq!(rt; fleet.tables.count(Entity::Factsets), 2);
-    assert_eq!(rt; fleet.tables.count(Entity::Reports), 0);
-    let newest = Rank {
-        stamp: moment(TEN)?,
-        receipt: 3,
-    };
-    assert_eq!(rt; fleet.newest("a", Kind::Facts)?, Some(newest));
-    Ok(())
+    let mut fleet = Fleet::over(rt.alloc(), of_list(rt.alloc())?);
+    Ok(fleet.play(&rt, SHOWN)?)
 }

@@ -5,7 +5,7 @@ use std::alloc::{AllocError, Global};
 const DAY: i64 = 86_400_000_000_000;
 
 /// A command that was applied. Moments are nanoseconds since 1970.
-#[derive(Clone, Copy, Debug)]
+#[derive(Clone, Copy)]
 pub(crate) struct Applied {
     pub receipt: u64,
     pub kind: Kind,
@@ -17,7 +17,7 @@ pub(crate) struct Applied {
 }
 
 /// Events, the first first.
-#[derive(Clone, Copy, Debug)]
+#[derive(Clone, Copy)]
 pub(crate) enum Event {
     Applied(Applied),
     Swept(Kinds, i64),
@@ -30,30 +30,21 @@ fn later(a: Option<i64>, b: i64) -> Option<i64> {
     }
 }
 
-/// The greatest moment of a sweep of expiry.
-pub(crate) fn greatest_expiry(events: &[Event]) -> Option<i64> {
-    let mut greatest = None;
+/// The greatest moments of sweeps of expiry and of reports.
+pub(crate) fn greatest_sweeps(events: &[Event]) -> (Option<i64>, Option<i64>) {
+    let mut expiry = None;
+    let mut retention = None;
     for event in events {
-        if let Event::Swept(kinds, m) = event
-            && kinds.expire
-        {
-            greatest = later(greatest, *m);
+        if let Event::Swept(kinds, m) = event {
+            if kinds.expire {
+                expiry = later(expiry, *m);
+            }
+            if kinds.reports {
+                retention = later(retention, *m);
+            }
         }
     }
-    greatest
-}
-
-/// The greatest moment of a sweep of reports.
-pub(crate) fn greatest_retention(events: &[Event]) -> Option<i64> {
-    let mut greatest = None;
-    for event in events {
-        if let Event::Swept(kinds, m) = event
-            && kinds.reports
-        {
-            greatest = later(greatest, *m);
-        }
-    }
-    greatest
+    (expiry, retention)
 }
 
 /// The commands of the node behind the last purge that took it.
@@ -67,7 +58,7 @@ pub(crate) fn life(
         match events[at] {
             Event::Applied(x) if x.node == node => life.push(x)?,
             Event::Swept(kinds, m) if kinds.purge => {
-                let expiry = greatest_expiry(&events[..at + 1]);
+                let (expiry, _) = greatest_sweeps(&events[..at + 1]);
                 if is_purged(life.as_slice(), expiry, m) {
                     life.clear();
                 }
@@ -115,10 +106,10 @@ pub(crate) fn deactivated(life: &[Applied]) -> Option<i64> {
     }
 }
 
-/// The moment at which the node expired, where it did.
+/// The moment at which the node expired, where it did. Half of the forms of a configuration let nodes expire.
 pub(crate) fn expired(life: &[Applied], expiry: Option<i64>) -> Option<i64> {
     if let Some(x) = newest(life, Kind::Expiration)
-        && !lets_expire(x.form)
+        && x.form % 2 == 0
     {
         return None;
     }
@@ -126,41 +117,28 @@ pub(crate) fn expired(life: &[Applied], expiry: Option<i64>) -> Option<i64> {
     if end < expiry? { Some(end) } else { None }
 }
 
-/// Half of the forms of a configuration let nodes expire.
-pub(crate) fn lets_expire(form: usize) -> bool {
-    form % 2 == 1
-}
-
 fn is_purged(life: &[Applied], expiry: Option<i64>, m: i64) -> bool {
     let edge = m.saturating_sub(14 * DAY);
-    is_before(deactivated(life), edge) || is_before(expired(life, expiry), edge)
+    matches!(deactivated(life), Some(end) if end < edge)
+        || matches!(expired(life, expiry), Some(end) if end < edge)
 }
 
-fn is_before(moment: Option<i64>, edge: i64) -> bool {
-    match moment {
-        Some(moment) => moment < edge,
-        None => false,
-    }
+fn is_retained(x: &Applied, retention: Option<i64>) -> bool {
+    let edge = match retention {
+        Some(m) => m.saturating_sub(14 * DAY),
+        None => i64::MIN,
+    };
+    x.kind == Kind::Report && x.stamp >= edge
 }
 
-/// The reports that are kept, in no order that counts, at most so many. Of those with one stamp and form the one of the greatest rank stays.
-pub(crate) fn kept_reports(
-    alloc: Global,
-    life: &[Applied],
-    retention: Option<i64>,
-    limit: Option<u32>,
-) -> Result<Vec<Applied>, AllocError> {
-    let mut kept = Vec::new(alloc);
-    for x in life {
-        if is_kept(x, life, retention) && is_within(x, life, retention, limit) {
-            kept.push(*x)?;
+// Of the reports with one stamp and form, which have one canonical text, the one of the greatest rank.
+fn is_kept(x: &Applied, life: &[Applied], retention: Option<i64>) -> bool {
+    for y in life {
+        if is_retained(y, retention) && x.stamp == y.stamp && x.form == y.form && is_above(y, x) {
+            return false;
         }
     }
-    Ok(kept)
-}
-
-fn is_kept(x: &Applied, life: &[Applied], retention: Option<i64>) -> bool {
-    is_retained(x, retention) && !is_outranked(x, life, retention)
+    is_retained(x, retention)
 }
 
 // Fewer reports than the limit have a greater rank.
@@ -177,24 +155,38 @@ fn is_within(x: &Applied, life: &[Applied], retention: Option<i64>, limit: Optio
     }
 }
 
-fn is_retained(x: &Applied, retention: Option<i64>) -> bool {
-    let edge = match retention {
-        Some(m) => m.saturating_sub(14 * DAY),
-        None => i64::MIN,
-    };
-    x.kind == Kind::Report && x.stamp >= edge
+// Which of the forms of reports stands first by its canonical text: an environment in quotes before null, and then the number of
+// the format.
+fn place_of(form: usize) -> usize {
+    [0, 2, 1, 3][form % 4]
 }
 
-fn is_outranked(x: &Applied, life: &[Applied], retention: Option<i64>) -> bool {
-    for y in life {
-        if is_retained(y, retention) && is_one(x, y) && is_above(y, x) {
-            return true;
+// How many of the reports stand before this one.
+fn count_before(reports: &[Applied], x: &Applied) -> usize {
+    let mut count = 0usize;
+    for y in reports {
+        if y.stamp < x.stamp || (y.stamp == x.stamp && place_of(y.form) < place_of(x.form)) {
+            count = count.saturating_add(1);
         }
     }
-    false
+    count
 }
 
-// Reports of one node have one canonical text where they have one stamp and form.
-fn is_one(x: &Applied, y: &Applied) -> bool {
-    x.stamp == y.stamp && x.form == y.form
+/// The reports that are kept, at most so many, by their stamps and then by their canonical texts.
+pub(crate) fn kept_reports(
+    alloc: Global,
+    life: &[Applied],
+    retention: Option<i64>,
+    limit: Option<u32>,
+) -> Result<Vec<Applied>, AllocError> {
+    let mut kept: Vec<Applied> = Vec::new(alloc);
+    for x in life {
+        if is_kept(x, life, retention) && is_within(x, life, retention, limit) {
+            let place = count_before(kept.as_slice(), x).min(kept.len());
+            if kept.insert(place, *x).is_err() {
+                return Ok(kept);
+            }
+        }
+    }
+    Ok(kept)
 }

@@ -1,61 +1,57 @@
 //! Which of two commands counts. 10:00 is 2024-05-01T10:00:00Z.
-use crate::script::Step::{Begin, Count, HasNone, IsInactive, IsNewest, Send, SendUnder, Shows};
-use crate::script::{ONE, Step, TWO, play};
-use command_decode::fleet_rows::{Entity, Kind};
-use std::test::Fail;
+use crate::play::play;
+use std::alloc::AllocError;
 
-const TEN: &str = "2024-05-01T10:00:00Z";
-
-const TEN_ELSEWHERE: &str = "2024-05-01T12:00:00+02:00";
-
-const BEFORE_TEN: &str = "2024-05-01T09:59:59.999999999Z";
-
-const BEHIND_TEN: &str = "2024-05-01T10:00:00.000000001Z";
-
-const TEN_NANOS: i128 = 1_714_557_600_000_000_000;
-
-const SHOWS_ONE: &str = r#""a" null "n" 1"#;
-
-const SHOWS_TWO: &str = r#""a" null "n" 2"#;
-
-const STEPS: &[Step] = &[
-    Begin("facts that are older change nothing"),
-    Send(Kind::Facts, "a", TEN, ONE),
-    Send(Kind::Facts, "a", BEFORE_TEN, TWO),
-    IsNewest("a", Kind::Facts, TEN_NANOS, 1),
-    Shows(Entity::Facts, &[SHOWS_ONE]),
-    Begin("of equal stamps the later receipt counts"),
-    Send(Kind::Facts, "a", TEN, ONE),
-    Send(Kind::Facts, "a", TEN_ELSEWHERE, TWO),
-    IsNewest("a", Kind::Facts, TEN_NANOS, 2),
-    Shows(Entity::Facts, &[SHOWS_TWO]),
-    Begin("a receipt that comes late stays behind"),
-    SendUnder(5, Kind::Facts, "a", TEN_ELSEWHERE, TWO),
-    SendUnder(4, Kind::Facts, "a", TEN, ONE),
-    IsNewest("a", Kind::Facts, TEN_NANOS, 5),
-    Shows(Entity::Facts, &[SHOWS_TWO]),
-    Begin("a nanosecond counts more than receipts"),
-    SendUnder(1, Kind::Facts, "a", BEHIND_TEN, ONE),
-    SendUnder(2, Kind::Facts, "a", TEN, TWO),
-    IsNewest("a", Kind::Facts, TEN_NANOS + 1, 1),
-    Shows(Entity::Facts, &[SHOWS_ONE]),
-    Begin("facts go and come with their names"),
-    Send(Kind::Facts, "b", TEN, r#","values":{"z":1,"m":2,"a":3}"#),
-    Send(Kind::Facts, "a", TEN, r#","values":{}"#),
-    Send(Kind::Facts, "b", BEHIND_TEN, r#","values":{"y":1,"m":[]}"#),
-    Shows(Entity::Facts, &[r#""b" null "m" []"#, r#""b" null "y" 1"#]),
-    Count(Entity::Factsets, 2),
-    Count(Entity::FactContents, 0),
-    Count(Entity::Inventory, 0),
-    Begin("commands of a kind or node that is not there have no newest"),
-    Send(Kind::Report, "a", TEN, ""),
-    HasNone("a", Kind::Facts),
-    HasNone("a", Kind::Report),
-    HasNone("b", Kind::Facts),
-    IsInactive("b", false),
-];
+const FLEETS: &str = r#"fleet facts that are older change nothing
+facts 1 {"certname":"a","producer_timestamp":"2024-05-01T10:00:00Z","values":{"n":1}}
+facts 2 {"certname":"a","producer_timestamp":"2024-05-01T09:59:59.999999999Z","values":{"n":2}}
+newest facts a
+| 2024-05-01T10:00:00.000000000Z 1
+rows facts
+| "a" null "n" 1
+fleet of equal stamps the later receipt counts
+facts 1 {"certname":"a","producer_timestamp":"2024-05-01T10:00:00Z","values":{"n":1}}
+facts 2 {"certname":"a","producer_timestamp":"2024-05-01T12:00:00+02:00","values":{"n":2}}
+newest facts a
+| 2024-05-01T10:00:00.000000000Z 2
+rows facts
+| "a" null "n" 2
+fleet a receipt that comes late stays behind
+facts 5 {"certname":"a","producer_timestamp":"2024-05-01T12:00:00+02:00","values":{"n":2}}
+facts 4 {"certname":"a","producer_timestamp":"2024-05-01T10:00:00Z","values":{"n":1}}
+newest facts a
+| 2024-05-01T10:00:00.000000000Z 5
+rows facts
+| "a" null "n" 2
+fleet a nanosecond counts more than receipts
+facts 1 {"certname":"a","producer_timestamp":"2024-05-01T10:00:00.000000001Z","values":{"n":1}}
+facts 2 {"certname":"a","producer_timestamp":"2024-05-01T10:00:00Z","values":{"n":2}}
+newest facts a
+| 2024-05-01T10:00:00.000000001Z 1
+rows facts
+| "a" null "n" 1
+fleet facts go and come with their names
+facts 1 {"certname":"b","producer_timestamp":"2024-05-01T10:00:00Z","values":{"z":1,"m":2,"a":3}}
+facts 2 {"certname":"a","producer_timestamp":"2024-05-01T10:00:00Z","values":{}}
+facts 3 {"certname":"b","producer_timestamp":"2024-05-01T10:00:00.000000001Z","values":{"y":1,"m":[]}}
+rows facts
+| "b" null "m" []
+| "b" null "y" 1
+count factsets 2
+count fact_contents 0
+count inventory 0
+fleet commands of a kind or node that is not there have no newest
+report 1 {"certname":"a","producer_timestamp":"2024-05-01T10:00:00Z"}
+newest facts a
+| none
+newest report a
+| none
+newest facts b
+| none
+active b
+end"#;
 
 #[test]
-fn of_two_commands_the_one_of_the_greater_rank_counts(rt: HostRuntime) -> Result<(), Fail> {
-    play(&rt, rt.alloc(), STEPS)
+fn of_two_commands_the_one_of_the_greater_rank_counts(rt: HostRuntime) -> Result<(), AllocError> {
+    play(&rt, rt.alloc(), FLEETS)
 }

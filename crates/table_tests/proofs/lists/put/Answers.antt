@@ -7,5 +7,5 @@ returns c = record {
   expire = c.requires.expire;
   retain = c.requires.retain;
   marks = c.requires.marks;
-  changes = all_pushed HasLawfulChange c.args.list.now.applied c.push.new.self _ c.in_ok-push.ensures.ok c.requires.changes c.in_ok-change.ensures;
+  changes = all_pushed HasLawfulChange c.args.list.now.applied c.push.new.self _ c.in_ok-push.ensures.ok c.requires.changes c.in-Some.ensures;
 }
