@@ -1,9 +1,21 @@
-//! Tests of the AST of queries: each form, each fault with its place. There is nothing here but tests.
+//! Tests of the languages of queries, and of what they are answered from tables: `ast_reader`, `pql_reader`, `query_answer`,
+//! `query_plain`, `paging_text` and `pattern_regex` over `fleet_tables`. Most cases are lines of text (`play.rt`): commands by their
+//! payloads, queries, and the rows or the refusal that each is told. There is nothing here but tests.
 #![tactic(auto)]
 
+#[cfg(test)]
+mod alike;
+#[cfg(test)]
+mod answered;
 #[cfg(test)]
 mod ast;
 #[cfg(test)]
 mod deep;
 #[cfg(test)]
-mod told;
+mod documented;
+#[cfg(test)]
+mod play;
+#[cfg(test)]
+mod pql;
+#[cfg(test)]
+mod short_texts;

@@ -1,11 +1,9 @@
-//! All short lists of a dozen tokens, by a plain slow reader that knows nothing of the machine: it keeps all lists of symbols that
-//! may still follow, puts for a form each of its spellings, and drops the lists that go on with another token.
-
+//! All short lists of a dozen tokens, by a plain slow reader that knows nothing of the machine: it follows each spelling of each form
+//! at once, by the sets of places up to which the tokens may be read.
 use pql_reader::{PqlFault, read_pql};
 use std::alloc::{AllocError, Global};
-use std::test::Fail;
 
-// What each token stands for.
+// What each token stands for, and behind the tokens the end.
 const TOKENS: &[(u8, &str)] = &[
     (b'w', "nodes"),
     (b'c', "count"),
@@ -39,9 +37,9 @@ const TOKENS: &[(u8, &str)] = &[
 
 // The forms, in capital letters, and their spellings.
 const GRAMMAR: &[(u8, &[u8])] = &[
-    // a query
-    (b'Q', b"W{FP}"),
-    (b'Q', b"W[C]{FG}"),
+    // a query, and the end
+    (b'Q', b"W{FP}."),
+    (b'Q', b"W[C]{FG}."),
     (b'W', b"w"),
     (b'W', b"c"),
     // columns; behind a column `count`; behind a function of that name
@@ -112,67 +110,53 @@ const PLACES: &[(&[u8], &[u8; 12], &[u8])] = &[
     (b"w{w", b"wt1=#~skn{}o", b"}"),
 ];
 
-// A list of symbols, of which the next is the last.
-fn put(alloc: Global, before: &[u8], symbols: &[u8]) -> Result<Vec<u8>, AllocError> {
-    let mut list = Vec::new(alloc);
-    list.extend_from_slice(before)?;
-    for symbol in symbols.iter().rev() {
-        list.push(*symbol)?;
+// The tokens of one letter that stand at these places, and the places behind them.
+fn behind(tokens: &[u8], token: u8, places: u32) -> u32 {
+    let mut place = 1u32;
+    let mut found = 0;
+    for other in tokens {
+        if *other == token {
+            found |= places & place;
+        }
+        place = place.wrapping_mul(2);
     }
-    Ok(list)
+    found.wrapping_mul(2)
 }
 
-// The lists with the spellings of their next forms, so that each begins with a token or is empty.
-fn spelt(alloc: Global, lists: Vec<Vec<u8>>) -> Result<Vec<Vec<u8>>, AllocError> {
-    let mut left = lists;
-    let mut found = Vec::new(alloc);
-    for _ in 0..1_000_000 {
-        let Some(list) = left.pop() else {
-            return Ok(found);
-        };
-        match list.as_slice() {
-            [before @ .., form] if form.is_ascii_uppercase() => {
-                for (name, symbols) in GRAMMAR {
-                    if *name == *form {
-                        left.push(put(alloc, before, symbols)?)?;
-                    }
+// The places behind these symbols, read from each of those places on, and all places that a token is read up to.
+fn read(tokens: &[u8], symbols: &[u8], places: u32, depth: u32) -> (u32, u32) {
+    let mut at = places;
+    let mut seen = places;
+    for symbol in symbols {
+        if at == 0 || depth == 0 {
+            return (0, seen);
+        }
+        if symbol.is_ascii_uppercase() {
+            let mut ends = 0;
+            for (form, spelling) in GRAMMAR {
+                if *form == *symbol {
+                    let (end, reached) = read(tokens, spelling, at, depth - 1);
+                    ends |= end;
+                    seen |= reached;
                 }
             }
-            next => found.push(put(alloc, next, b"")?)?,
+            at = ends;
+        } else {
+            at = behind(tokens, *symbol, at);
+            seen |= at;
         }
     }
-    Ok(found)
+    (at, seen)
 }
 
-// What may follow behind the token.
-fn behind(alloc: Global, lists: &[Vec<u8>], token: u8) -> Result<Vec<Vec<u8>>, AllocError> {
-    let mut found = Vec::new(alloc);
-    for list in lists {
-        match list.as_slice() {
-            [before @ .., next] if *next == token => found.push(put(alloc, before, b"")?)?,
-            _ => {}
-        }
+// The number of the first token with which no query goes on, the end being one; None for a query.
+fn bad_token(tokens: &[u8]) -> Option<usize> {
+    let (ends, seen) = read(tokens, b"Q", 1, 200);
+    if ends == 0 {
+        Some(31u32.saturating_sub(seen.leading_zeros()) as usize)
+    } else {
+        None
     }
-    Ok(found)
-}
-
-// The number of the first token with which no query goes on, or how many there are where the query goes on; None for a query.
-fn bad_token(alloc: Global, tokens: &[u8]) -> Result<Option<usize>, AllocError> {
-    let mut lists = Vec::new(alloc);
-    lists.push(put(alloc, b"Q", b"")?)?;
-    for (number, token) in tokens.iter().enumerate() {
-        let next = spelt(alloc, lists)?;
-        lists = behind(alloc, next.as_slice(), *token)?;
-        if lists.is_empty() {
-            return Ok(Some(number));
-        }
-    }
-    for list in spelt(alloc, lists)? {
-        if list.is_empty() {
-            return Ok(None);
-        }
-    }
-    Ok(Some(tokens.len()))
 }
 
 fn word(token: u8) -> &'static str {
@@ -184,25 +168,30 @@ fn word(token: u8) -> &'static str {
     ""
 }
 
-// The tokens' text, and the place of the one of that number.
-fn text_of(
-    alloc: Global,
-    tokens: &[u8],
-    at: Option<usize>,
-) -> Result<(String, Option<usize>), AllocError> {
-    let mut text = String::new(alloc);
-    let mut place = None;
-    for (number, token) in tokens.iter().enumerate() {
-        text.push_str(" ")?;
-        if at == Some(number) {
-            place = Some(text.len());
+// The tokens, each behind a space.
+fn text_of(alloc: Global, tokens: &[u8]) -> Result<Vec<u8>, AllocError> {
+    let mut text = Vec::new(alloc);
+    for token in tokens {
+        if *token != b'.' {
+            text.push(b' ')?;
+            text.extend_from_slice(word(*token).as_bytes())?;
         }
-        text.push_str(word(*token))?;
     }
-    if at == Some(tokens.len()) {
-        place = Some(text.len());
+    Ok(text)
+}
+
+// Where the token of that number stands in the text.
+fn place_of(tokens: &[u8], number: usize) -> usize {
+    let mut place = 0usize;
+    for (at, token) in tokens.iter().enumerate() {
+        if at < number {
+            place = place.saturating_add(1).saturating_add(word(*token).len());
+        }
+        if at == number && *token != b'.' {
+            place = place.saturating_add(1);
+        }
     }
-    Ok((text, place))
+    place
 }
 
 // The list of so many tokens, of those that can be put in its places, by its number.
@@ -221,24 +210,36 @@ fn numbered(
         left /= 12;
     }
     tokens.extend_from_slice(behind)?;
+    tokens.push(b'.')?;
     Ok(tokens)
 }
 
+fn bad_at(alloc: Global, text: &[u8]) -> Option<usize> {
+    match read_pql(alloc, text) {
+        Err(PqlFault::PqlBad { at }) => Some(at),
+        _ => None,
+    }
+}
+
+fn wanted_at(tokens: &[u8]) -> Option<usize> {
+    match bad_token(tokens) {
+        Some(number) => Some(place_of(tokens, number)),
+        None => None,
+    }
+}
+
 #[test]
-fn short_lists_are_bad_exactly_where_a_slow_reader_tells_it(rt: HostRuntime) -> Result<(), Fail> {
+fn short_lists_are_bad_exactly_where_a_slow_reader_tells_it(
+    rt: HostRuntime,
+) -> Result<(), AllocError> {
     let alloc = rt.alloc();
     for place in PLACES {
         let mut queries = 0u32;
         for (size, count) in [(0usize, 1u32), (1, 12), (2, 144), (3, 1728)] {
             for number in 0..count {
                 let tokens = numbered(alloc, place, size, number)?;
-                let wanted = bad_token(alloc, tokens.as_slice())?;
-                let (text, at) = text_of(alloc, tokens.as_slice(), wanted)?;
-                let found = match read_pql(alloc, text.as_str().as_bytes()) {
-                    Err(PqlFault::PqlBad { at }) => Some(at),
-                    _ => None,
-                };
-                assert!(rt; found == at, "{}", text.as_str());
+                let found = bad_at(alloc, text_of(alloc, tokens.as_slice())?.as_slice());
+                assert!(rt; found == wanted_at(tokens.as_slice()), "{number} of {size}");
                 if found.is_none() {
                     queries = queries.saturating_add(1);
                 }

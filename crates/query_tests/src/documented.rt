@@ -1,9 +1,8 @@
 //! Queries as PuppetDB's documentation of its query API has them, in the AST and in PQL, over a small fleet of the kind that its
 //! examples are about. What is told follows from what that documentation says of each form; the columns and the order of rows are
 //! this project's own.
-
-use crate::asked::play;
-use std::test::Fail;
+use crate::play::play;
+use std::alloc::AllocError;
 
 const FLEETS: &str = r#"fleet four nodes, two with a catalog
 facts {"certname":"a.example.com","environment":"production","values":{"ipaddress":"192.168.0.1","kernel":"Linux","operatingsystem":"Debian","uptime_hours":900},"producer_timestamp":"2024-05-01T10:00:00Z"}
@@ -32,7 +31,7 @@ ask facts { name = 'ipaddress' and certname in resources[certname] { type = 'Cla
 told [{"certname":"a.example.com","environment":"production","name":"ipaddress","value":"192.168.0.1"}]
 ask facts { name = 'ipaddress' and resources { type = 'Class' and title = 'Apache' } }
 told [{"certname":"a.example.com","environment":"production","name":"ipaddress","value":"192.168.0.1"}]
-ask ["extract","certname",["in","certname",["extract","certname",["select_resources",["and",["=","type","Class"],["=","title","Apache"]]]]]]
+nodes ["extract","certname",["in","certname",["extract","certname",["select_resources",["and",["=","type","Class"],["=","title","Apache"]]]]]]
 told [{"certname":"a.example.com"}]
 ask ["from","facts",["extract","value",["and",["=","name","ipaddress"],["in","certname",["extract","certname",["select_facts",["and",["=","name","operatingsystem"],["=","value","Debian"]]]]]]]]
 told [{"value":"192.168.0.1"}]
@@ -40,11 +39,11 @@ ask ["from","facts",["extract","value",["and",["=","name","uptime_hours"],["in",
 told [{"value":900},{"value":20}]
 ask facts[value] { name = 'uptime_hours' and nodes { facts_environment = 'production' } }
 told [{"value":900},{"value":20}]
-ask ["extract","certname",["~","certname","www\\d+\\.example\\.com"]]
+nodes ["extract","certname",["~","certname","www\\d+\\.example\\.com"]]
 told [{"certname":"www03.example.com"}]
 ask nodes[certname] { certname ~ 'www\d+\.example\.com' }
 told [{"certname":"www03.example.com"}]
-ask ["extract",[["function","count"]],["~","certname",".*\\.com"]]
+nodes ["extract",[["function","count"]],["~","certname",".*\\.com"]]
 told [{"count":4}]
 ask nodes[count()] {}
 told [{"count":4}]
@@ -68,19 +67,19 @@ ask ["from","resources",["extract","title",["=",["parameter","ensure"],"present"
 told [{"title":"www"}]
 ask ["from","resources",["extract","title",["=","tag","apache"]]]
 told [{"title":"/etc/apache2"}]
-ask ["extract","certname",["and",["=",["fact","kernel"],"Linux"],["<",["fact","uptime_hours"],30]]]
+nodes ["extract","certname",["and",["=",["fact","kernel"],"Linux"],["<",["fact","uptime_hours"],30]]]
 told [{"certname":"b.example.com"}]
 ask ["from","facts",["extract",["certname","value"],["and",["=","name","uptime_hours"],[">=","value",60]]]]
 told [{"certname":"a.example.com","value":900},{"certname":"c.example.com","value":60}]
-ask ["extract","certname",["in","certname",["array",["a.example.com","c.example.com","foo.local"]]]]
+nodes ["extract","certname",["in","certname",["array",["a.example.com","c.example.com","foo.local"]]]]
 told [{"certname":"a.example.com"},{"certname":"c.example.com"}]
 ask nodes[certname] { certname in ['a.example.com', 'c.example.com', 'foo.local'] }
 told [{"certname":"a.example.com"},{"certname":"c.example.com"}]
-ask ["extract","certname",["and",["=","catalog_environment","production"],["=","facts_environment","production"]]]
+nodes ["extract","certname",["and",["=","catalog_environment","production"],["=","facts_environment","production"]]]
 told [{"certname":"a.example.com"},{"certname":"b.example.com"}]
-ask ["extract","certname",["or",["=","catalog_environment","production"],["=","facts_environment","testing"]]]
+nodes ["extract","certname",["or",["=","catalog_environment","production"],["=","facts_environment","testing"]]]
 told [{"certname":"a.example.com"},{"certname":"b.example.com"},{"certname":"c.example.com"}]
-ask ["extract","certname",["not",["=","facts_environment","production"]]]
+nodes ["extract","certname",["not",["=","facts_environment","production"]]]
 told [{"certname":"c.example.com"}]
 ask nodes[certname] { !(facts_environment = 'production') }
 told [{"certname":"c.example.com"}]
@@ -98,7 +97,7 @@ ask facts[value, count()] { name = 'kernel' group by value order by value desc }
 told [{"value":"Linux","count":2},{"value":"Darwin","count":1}]
 ask nodes[certname] { facts { name = "kernel" and value = "Linux" } }
 told [{"certname":"a.example.com"},{"certname":"b.example.com"}]
-ask ["extract","certname",["in","certname",["extract","certname",["select_facts",["and",["=","name","kernel"],["=","value","Linux"]]]]]]
+nodes ["extract","certname",["in","certname",["extract","certname",["select_facts",["and",["=","name","kernel"],["=","value","Linux"]]]]]]
 told [{"certname":"a.example.com"},{"certname":"b.example.com"}]
 ask ["from","reports",["extract",[["function","count"],"status"],["group_by","status"]]]
 told [{"count":1,"status":"changed"},{"count":1,"status":"failed"},{"count":2,"status":"unchanged"}]
@@ -115,16 +114,14 @@ told not a query 2.1
 deactivate {"certname":"c.example.com","producer_timestamp":"2024-05-02T10:00:00Z"}
 ask nodes[certname] {}
 told [{"certname":"a.example.com"},{"certname":"b.example.com"},{"certname":"www03.example.com"}]
-ask ["extract","certname",["=","node_state","inactive"]]
+nodes ["extract","certname",["=","node_state","inactive"]]
 told [{"certname":"c.example.com"}]
-ask ["extract",[["function","count"]],["=","node_state","any"]]
+nodes ["extract",[["function","count"]],["=","node_state","any"]]
 told [{"count":4}]
 ask nodes[certname] { deactivated is not null and node_state = 'any' }
-told [{"certname":"c.example.com"}]
-"#;
+told [{"certname":"c.example.com"}]"#;
 
 #[test]
-fn documented_queries_are_answered(rt: HostRuntime) -> Result<(), Fail> {
-    assert_eq!(rt; play(&rt, rt.alloc(), FLEETS)?, 52);
-    Ok(())
+fn documented_queries_are_answered(rt: HostRuntime) -> Result<(), AllocError> {
+    play(&rt, rt.alloc(), FLEETS)
 }

@@ -1,0 +1,287 @@
+//! Tables and what they are asked as lines of text, and the loop that reads the lines.
+ghost use Rattle.command_decode.specs.history_spec.Lawful.{IsChange};
+
+use ast_reader::ast_tree::Paging;
+use ast_reader::{read_ast, read_filter};
+use command_decode::decode;
+use command_decode::fleet_rows::{Change, Command, Entity, Kind, Kinds, Ttls};
+use command_decode::json_tree::Bytes;
+use command_decode::stamp_time::{Moment, read_stamp};
+use fleet_tables::Tables;
+use paging_text::{page, write_rows};
+use pattern_memory::{MemoryPatterns, Note};
+use pattern_regex::RegexPatterns;
+use query_answer::{AnswerFault, answer_ast, answer_filter, answer_query, answer_text};
+use query_plain::{Picked, select_plain};
+use std::alloc::{AllocError, Global};
+use std::process::Abort;
+use std::str;
+use ttl_sweeps::sweep;
+
+// The kind of a command, and the version that is taken.
+fn kind_of(word: &str) -> Option<(Kind, u32)> {
+    match word {
+        "facts" => Some((Kind::Facts, 5)),
+        "catalog" => Some((Kind::Catalog, 9)),
+        "report" => Some((Kind::Report, 8)),
+        "deactivate" => Some((Kind::Deactivate, 3)),
+        _ => None,
+    }
+}
+
+// The entity whose rows are asked.
+fn entity_of(word: &str) -> Option<Entity> {
+    match word {
+        "nodes" => Some(Entity::Nodes),
+        "fact_contents" => Some(Entity::FactContents),
+        "inventory" => Some(Entity::Inventory),
+        "events" => Some(Entity::Events),
+        "event_counts" => Some(Entity::EventCounts),
+        _ => None,
+    }
+}
+
+fn expire(tables: &mut Tables, stamp: &str) -> bool {
+    let kinds = Kinds {
+        expire: true,
+        purge: false,
+        reports: false,
+    };
+    match read_stamp(stamp) {
+        Some(moment) => {
+            sweep(tables, kinds, moment);
+            true
+        }
+        None => false,
+    }
+}
+
+// The text of an answer: that of the rows, or that of the refusal.
+fn text_of(alloc: Global, answer: Result<Bytes, AnswerFault>) -> Result<Bytes, AllocError> {
+    match answer {
+        Ok(text) => Ok(text),
+        Err(AnswerFault::Refused(why)) => why.text(alloc),
+        Err(AnswerFault::Memory) => Bytes::from_slice(alloc, b"no memory"),
+    }
+}
+
+// What is asked of the rows of an entity: a copy of the query is answered, and a text that is none is refused.
+fn route_answer(
+    alloc: Global,
+    tables: &Tables,
+    entity: Entity,
+    text: &[u8],
+) -> Result<Bytes, AllocError> {
+    let mut patterns = RegexPatterns::new(alloc);
+    match read_filter(alloc, entity, text) {
+        Ok(query) => {
+            let copied = query.copy(alloc)?;
+            text_of(alloc, answer_query(alloc, tables, &copied, &mut patterns))
+        }
+        Err(_) => text_of(
+            alloc,
+            answer_filter(alloc, tables, entity, text, &mut patterns),
+        ),
+    }
+}
+
+fn put_words(out: &mut Vec<u8>, words: &[&str]) -> Result<(), AllocError> {
+    for word in words {
+        out.extend_from_slice(word.as_bytes())?;
+    }
+    Ok(())
+}
+
+fn put_note(out: &mut Vec<u8>, note: &Note) -> Result<(), AllocError> {
+    match note {
+        Note::Read(pattern, true) => put_words(out, &["refused ", pattern.as_str(), ";"]),
+        Note::Read(pattern, false) => put_words(out, &["read ", pattern.as_str(), ";"]),
+        Note::Tried(pattern, text) => {
+            put_words(out, &["tried ", pattern.as_str(), " ", text.as_str(), ";"])
+        }
+    }
+}
+
+// What a reader of patterns is asked for the answer to a query, in order.
+fn course(alloc: Global, tables: &Tables, text: &[u8]) -> Result<Bytes, AllocError> {
+    let mut patterns = MemoryPatterns::new(alloc);
+    let _ = answer_text(alloc, tables, text, &mut patterns);
+    let mut out = Vec::new(alloc);
+    for note in patterns.notes() {
+        put_note(&mut out, note)?;
+    }
+    Ok(Bytes::from_vec(out))
+}
+
+// The paging of a query, with the number of all rows.
+fn paging_of(alloc: Global, text: &str) -> Option<Paging> {
+    let Ok(query) = read_ast(alloc, text.as_bytes()) else {
+        return None;
+    };
+    let (_, _, _, _, paging) = query.level().parts();
+    match paging.copy(alloc) {
+        Ok(mut paging) => {
+            paging.include_total = true;
+            Some(paging)
+        }
+        Err(_) => None,
+    }
+}
+
+fn picked(alloc: Global, tables: &Tables, text: &str) -> Option<Picked> {
+    match read_ast(alloc, text.as_bytes()) {
+        Ok(query) => select_plain(alloc, tables, &query, &mut RegexPatterns::new(alloc)).ok(),
+        Err(_) => None,
+    }
+}
+
+// The number of all rows, and those of the page.
+fn page_text(alloc: Global, picked: Picked, paging: &Paging) -> Result<Bytes, AllocError> {
+    let page = page(picked.rows, paging)?;
+    let mut out = Vec::new(alloc);
+    out.extend_from_slice(format!(in alloc; "{} ", page.total)?.as_bytes())?;
+    out.extend_from_slice(write_rows(alloc, &page.rows)?.as_slice())?;
+    Ok(Bytes::from_vec(out))
+}
+
+// The rows of a query by the paging of another one, which stands behind a bar.
+fn page_answer(alloc: Global, tables: &Tables, text: &str) -> Result<Bytes, AllocError> {
+    let (query, paging) = text.split_once('|').unwrap_or((text, ""));
+    let Some(paging) = paging_of(alloc, paging) else {
+        return Bytes::from_slice(alloc, b"no paging");
+    };
+    match picked(alloc, tables, query) {
+        Some(picked) => page_text(alloc, picked, &paging),
+        None => Bytes::from_slice(alloc, b"no rows"),
+    }
+}
+
+// The parts between bars, each second one so many times as the number in front says.
+fn repeated(alloc: Global, text: &str) -> Result<Bytes, AllocError> {
+    let (times, parts) = text.split_once(' ').unwrap_or((text, ""));
+    let times = times.parse::<u32>().unwrap_or(0);
+    let mut out = Vec::new(alloc);
+    for (place, part) in parts.split('|').enumerate() {
+        for _ in 0..(if place % 2 == 0 { 1 } else { times }) {
+            out.extend_from_slice(part.as_bytes())?;
+        }
+    }
+    Ok(Bytes::from_vec(out))
+}
+
+/// Tables, and what they told last.
+#[derive(Drop)]
+pub(crate) struct Fleet {
+    alloc: Global,
+    tables: Tables,
+    receipt: u64,
+    told: Bytes,
+}
+
+impl Fleet {
+    pub(crate) fn new(alloc: Global) -> Fleet {
+        Fleet {
+            alloc,
+            tables: Tables::new(alloc, Ttls::default_lifetimes()),
+            receipt: 1,
+            told: Bytes::from_vec(Vec::new(alloc)),
+        }
+    }
+
+    fn put(&mut self, change: Change) -> Result<bool, AllocError>
+        requires { IsChange change }
+    {
+        let room = self.tables.reserve(&change)?;
+        self.tables.apply(room, self.receipt, None, change);
+        self.receipt = self.receipt.saturating_add(1);
+        Ok(true)
+    }
+
+    // Applies a command that isn't refused.
+    fn apply(&mut self, kind: Kind, version: u32, payload: &str) -> Result<bool, AllocError> {
+        if payload.len() >= 4_294_967_296 {
+            return Ok(false);
+        }
+        let command = Command {
+            kind,
+            version,
+            received: Moment::from_nanosecond(0),
+            payload: Bytes::from_slice(self.alloc, payload.as_bytes())?,
+        };
+        match decode(self.alloc, &command) {
+            Ok(change) => self.put(change),
+            Err(_) => Ok(false),
+        }
+    }
+
+    /// Asks a whole query in either language.
+    pub(crate) fn ask(&mut self, text: &[u8]) -> Result<bool, AllocError> {
+        let mut patterns = RegexPatterns::new(self.alloc);
+        let answer = answer_text(self.alloc, &self.tables, text, &mut patterns);
+        self.told = text_of(self.alloc, answer)?;
+        Ok(true)
+    }
+
+    fn ask_ast(&mut self, text: &[u8]) -> Result<bool, AllocError> {
+        let mut patterns = RegexPatterns::new(self.alloc);
+        let answer = answer_ast(self.alloc, &self.tables, text, &mut patterns);
+        self.told = text_of(self.alloc, answer)?;
+        Ok(true)
+    }
+
+    // Asks the rows of an entity, or applies a command.
+    fn take(&mut self, word: &str, text: &str) -> Result<bool, AllocError> {
+        if let Some((kind, version)) = kind_of(word) {
+            return self.apply(kind, version, text);
+        }
+        match entity_of(word) {
+            Some(entity) => {
+                self.told = route_answer(self.alloc, &self.tables, entity, text.as_bytes())?;
+                Ok(true)
+            }
+            None => Ok(false),
+        }
+    }
+
+    /// The tables told this last.
+    pub(crate) fn has_told(&self, text: &str) -> bool {
+        self.told.as_slice() == text.as_bytes()
+    }
+
+    // Whether the line's command was taken, or what it says was told.
+    fn step(&mut self, word: &str, text: &str) -> Result<bool, AllocError> {
+        match word {
+            "fleet" => self.tables = Tables::new(self.alloc, Ttls::default_lifetimes()),
+            "expire" => return Ok(expire(&mut self.tables, text)),
+            "ask" => return self.ask(text.as_bytes()),
+            "ast" => return self.ask_ast(text.as_bytes()),
+            "repeat" => return self.ask(repeated(self.alloc, text)?.as_slice()),
+            "course" => self.told = course(self.alloc, &self.tables, text.as_bytes())?,
+            "page" => self.told = page_answer(self.alloc, &self.tables, text)?,
+            "told" => return Ok(self.has_told(text)),
+            "tells" => {
+                return Ok(self.told.as_slice() == repeated(self.alloc, text)?.as_slice());
+            }
+            _ => return self.take(word, text),
+        }
+        Ok(true)
+    }
+}
+
+/// Plays the lines, each a word and its text; the first that isn't so ends the test.
+///
+/// `fleet` begins with tables of no node. `facts`, `catalog`, `report` and `deactivate` apply a command by its payload, and `expire`
+/// is a sweep of expiry at a stamp. `ask` is a whole query in either language, `ast` one in the AST, and the name of an entity
+/// asks for its rows in the AST. `told` is what the last question was told: the rows, or the refusal. `course` asks, and is told
+/// what a reader of patterns was asked. `page` asks a query by the paging of another one. `repeat` asks the parts between bars, each
+/// second one so many times; `tells` repeats what is told so.
+pub(crate) fn play(rt: &impl Abort, alloc: Global, lines: &str) -> Result<(), AllocError> {
+    let mut fleet = Fleet::new(alloc);
+    for (place, line) in lines.split('\n').enumerate() {
+        let (word, text) = line.split_once(' ').unwrap_or((line, ""));
+        let is_so = fleet.step(word, text)?;
+        let told = str::from_utf8(fleet.told.as_slice()).unwrap_or("no text");
+        assert!(rt; is_so, "line {place}: {told}");
+    }
+    Ok(())
+}
