@@ -106,6 +106,9 @@ fn put_note(out: &mut Vec<u8>, note: &Note) -> Result<(), AllocError> {
 fn course(alloc: Global, tables: &Tables, text: &[u8]) -> Result<Bytes, AllocError> {
     let mut patterns = MemoryPatterns::new(alloc);
     let _ = answer_text(alloc, tables, text, &mut patterns);
+    if patterns.lost() > 0 {
+        return Bytes::from_slice(alloc, b"no memory");
+    }
     let mut out = Vec::new(alloc);
     for note in patterns.notes() {
         put_note(&mut out, note)?;
