@@ -1,5 +1,5 @@
 //! Answers byte for byte.
-use crate::link::PieceLink;
+use crate::link::Pieces;
 use http_front::{Answer, Incoming, NextRequest, next_request, write_answer, write_memory_answer};
 use port_memory::fleet_ports::{Wrote, write_all};
 use port_memory::json_tree::Bytes;
@@ -83,7 +83,7 @@ fn two_requests_of_a_link_are_answered(rt: HostRuntime) -> Result<(), Fail> {
     let alloc = rt.alloc();
     let sent = b"GET /pdb/query/v4/nodes HTTP/1.1\r\n\r\nBAD\r\n\r\n";
     for piece in [1, 65_536] {
-        let mut link = PieceLink::new(Bytes::from_slice(alloc, sent)?, piece, 0);
+        let mut link = Pieces::new(Bytes::from_slice(alloc, sent)?, piece, 0);
         let mut sink = MemorySink::new(alloc, Numbers::new(alloc));
         let mut incoming = Incoming::new(alloc);
         for _ in 0..3 {

@@ -1,5 +1,5 @@
 //! Requests that clients were seen to send, one after the other on one link: two of `pypuppetdb`, two of Puppet's own terminus.
-use crate::link::{PieceLink, readings};
+use crate::link::{Pieces, readings};
 use port_memory::json_tree::Bytes;
 use std::test::Fail;
 
@@ -94,7 +94,7 @@ fn requests_of_clients_are_read(rt: HostRuntime) -> Result<(), Fail> {
     }
     text.extend_from_slice(b"ended/")?;
     for piece in [1, 65_536] {
-        let mut link = PieceLink::new(Bytes::from_slice(alloc, bytes.as_slice())?, piece, 0);
+        let mut link = Pieces::new(Bytes::from_slice(alloc, bytes.as_slice())?, piece, 0);
         let read = readings(alloc, &mut link, 5)?;
         assert_eq!(rt; read.as_slice(), text.as_slice(), "in pieces of {piece}");
     }

@@ -1,5 +1,5 @@
 //! Heads at their limits, a body of 16 MiB, and many requests on one link.
-use crate::link::{PieceLink, readings};
+use crate::link::{Pieces, readings};
 use port_memory::json_tree::Bytes;
 use std::alloc::{AllocError, Global};
 use std::test::Fail;
@@ -29,7 +29,7 @@ fn heads_have_at_most_65536_bytes_and_64_lines(rt: HostRuntime) -> Result<(), Fa
         (64, 65_537, false),
     ];
     for (lines, size, fits) in cases {
-        let mut link = PieceLink::new(Bytes::from_vec(head_of(alloc, lines, size)?), 1_000, 0);
+        let mut link = Pieces::new(Bytes::from_vec(head_of(alloc, lines, size)?), 1_000, 0);
         let read = readings(alloc, &mut link, 1)?;
         assert_eq!(rt;
             read.as_slice() != b"head too large/".as_slice(),
@@ -46,7 +46,7 @@ fn a_body_may_have_16_mib(rt: HostRuntime) -> Result<(), Fail> {
     let head = b"POST / HTTP/1.1\r\nContent-Length: 16777216\r\n\r\n";
     let mut bytes = Vec::from_slice(alloc, head)?;
     bytes.resize(head.len() + 16_777_216, b'x')?;
-    let mut link = PieceLink::new(Bytes::from_vec(bytes), 100_000, 0);
+    let mut link = Pieces::new(Bytes::from_vec(bytes), 100_000, 0);
     let read = readings(alloc, &mut link, 1)?;
     assert_eq!(rt; read.len(), 16_777_216 + 34);
     Ok(())
@@ -59,7 +59,7 @@ fn ten_thousand_requests_come_on_one_link(rt: HostRuntime) -> Result<(), Fail> {
     for _ in 0..10_000 {
         bytes.extend_from_slice(b"POST / HTTP/1.1\r\nContent-Length: 2\r\n\r\nab")?;
     }
-    let mut link = PieceLink::new(Bytes::from_vec(bytes), 100, 0);
+    let mut link = Pieces::new(Bytes::from_vec(bytes), 100, 0);
     let read = readings(alloc, &mut link, 10_001)?;
     let one = b"POST / Content-Length=2 [ab]/";
     assert_eq!(rt; read.len(), one.len() * 10_000 + 6);

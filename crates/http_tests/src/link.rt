@@ -1,14 +1,15 @@
-//! A link that gives so many bytes a call, and what is read of it.
+//! A link whose bytes come in pieces, and that keeps what is written; and what is read of one.
 ghost use Rattle.std.specs.Prelude.{None};
 
+use fleet_ports::{Put, Sink, Source, Took};
+use front_port::Link;
 use http_front::{HttpFault, Incoming, NextRequest, Request, next_request};
-use port_memory::fleet_ports::{Source, Took};
-use port_memory::json_tree::Bytes;
+use json_tree::Bytes;
 use std::alloc::{AllocError, Global};
 
 /// Gives at most so many bytes a call, and fails at one call.
 #[derive(Drop)]
-pub(crate) struct PieceLink {
+pub(crate) struct Pieces {
     bytes: Bytes,
     at: usize,
     piece: usize,
@@ -17,9 +18,9 @@ pub(crate) struct PieceLink {
     faults: u64,
 }
 
-impl PieceLink {
-    pub(crate) fn new(bytes: Bytes, piece: usize, fails_at: u64) -> PieceLink {
-        PieceLink {
+impl Pieces {
+    pub(crate) fn new(bytes: Bytes, piece: usize, fails_at: u64) -> Pieces {
+        Pieces {
             bytes,
             at: 0,
             piece,
@@ -34,7 +35,7 @@ impl PieceLink {
     }
 }
 
-impl Source for PieceLink {
+impl Source for Pieces {
     ghost left = { λ _. None };
 
     ghost fault_count = { λ s. s.faults };
@@ -53,6 +54,54 @@ impl Source for PieceLink {
         into[..count].copy_from_slice(&bytes[self.at..self.at + count]);
         self.at += count;
         Took::Bytes(count)
+    }
+}
+
+/// Takes what is written up to so many bytes.
+#[derive(Drop)]
+pub(crate) struct Room {
+    written: Vec<u8>,
+    room: usize,
+    faults: u64,
+}
+
+impl Room {
+    pub(crate) fn written(&self) -> &[u8] {
+        self.written.as_slice()
+    }
+}
+
+impl Sink for Room {
+    ghost held = { λ _. None };
+
+    ghost fault_count = { λ s. s.faults };
+
+    fn write_some(&mut self, piece: &[u8]) -> Put {
+        let left = self.room.saturating_sub(self.written.len());
+        let count = left.min(piece.len());
+        if count == 0 || self.written.extend_from_slice(&piece[..count]).is_err() {
+            self.faults = self.faults.saturating_add(1);
+            return Put::Failed;
+        }
+        Put::Took(count)
+    }
+}
+
+/// A link with these bytes, in pieces of so many, that fails at one read, and has so much room for what is written.
+pub(crate) fn link_of(
+    alloc: Global,
+    bytes: Bytes,
+    piece: usize,
+    fails_at: u64,
+    room: usize,
+) -> Link<Pieces, Room> {
+    Link {
+        incoming: Pieces::new(bytes, piece, fails_at),
+        outgoing: Room {
+            written: Vec::new(alloc),
+            room,
+            faults: 0,
+        },
     }
 }
 
@@ -84,7 +133,7 @@ fn write_request(text: &mut Vec<u8>, request: &Request) -> Result<(), AllocError
 /// All that is read of a link, each answer before a `/`. The link isn't asked again once it is over, but for one call.
 pub(crate) fn readings(
     alloc: Global,
-    link: &mut PieceLink,
+    link: &mut Pieces,
     most: usize,
 ) -> Result<Vec<u8>, AllocError> {
     let mut incoming = Incoming::new(alloc);

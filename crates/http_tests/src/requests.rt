@@ -1,5 +1,5 @@
 //! Requests and faults, from links that give one byte a call and more.
-use crate::link::{PieceLink, readings};
+use crate::link::{Pieces, readings};
 use http_front::{Incoming, NextRequest, next_request};
 use port_memory::json_tree::Bytes;
 use std::test::Fail;
@@ -71,7 +71,7 @@ fn requests_and_faults_are_read_in_any_pieces(rt: HostRuntime) -> Result<(), Fai
     ];
     for (bytes, answers) in cases {
         for piece in [1, 7, 65_536] {
-            let mut link = PieceLink::new(Bytes::from_slice(alloc, bytes)?, piece, 0);
+            let mut link = Pieces::new(Bytes::from_slice(alloc, bytes)?, piece, 0);
             let read = readings(alloc, &mut link, 3)?;
             assert_eq!(rt;
                 (read.as_slice(), link.faults()),
@@ -88,7 +88,7 @@ fn a_fault_of_the_link_is_told(rt: HostRuntime) -> Result<(), Fail> {
     let alloc = rt.alloc();
     let bytes = b"POST / HTTP/1.1\r\nContent-Length: 2\r\n\r\nabGET";
     for fails_at in 1..40 {
-        let mut link = PieceLink::new(Bytes::from_slice(alloc, bytes)?, 1, fails_at);
+        let mut link = Pieces::new(Bytes::from_slice(alloc, bytes)?, 1, fails_at);
         let read = readings(alloc, &mut link, 2)?;
         assert_eq!(rt;
             read.as_slice(),
@@ -113,7 +113,7 @@ fn fields_are_found_by_their_names(rt: HostRuntime) -> Result<(), Fail> {
         ("X-Flee", None),
         ("", None),
     ];
-    let mut link = PieceLink::new(Bytes::from_slice(alloc, sent)?, 65_536, 0);
+    let mut link = Pieces::new(Bytes::from_slice(alloc, sent)?, 65_536, 0);
     let mut incoming = Incoming::new(alloc);
     match next_request(&mut incoming, &mut link) {
         NextRequest::Request(request) => for (name, value) in cases {
