@@ -1,65 +1,140 @@
-//! Disks in memory.
-use fleet_ports::Disks;
+//! Disks in memory, of which calls fail, or one stops.
+use crate::notes::both;
+use fleet_ports::{Disk, Disks};
 use json_tree::Bytes;
 use port_memory::{FuseDisk, MemoryDisk, Numbers};
 use std::alloc::{AllocError, Global};
 
-/// An empty disk, of which so many calls fail from this number on.
-fn weak_disk(alloc: Global, first: u64, count: u64) -> Result<MemoryDisk, AllocError> {
+/// Which disk fails or stops, and what a crash leaves.
+#[derive(Clone, Copy)]
+pub(crate) struct Fault {
+    /// The place of the disk, from 0 on.
+    pub(crate) which: u64,
+    /// From this call on so many fail.
+    pub(crate) first: u64,
+    pub(crate) count: u64,
+    /// Behind so many calls it stops.
+    pub(crate) stop: u64,
+    /// The choice of the image.
+    pub(crate) image: u64,
+}
+
+/// No call fails, and no disk stops.
+pub(crate) const NO_FAULT: Fault = Fault {
+    which: 0,
+    first: 0,
+    count: 0,
+    stop: u64::MAX,
+    image: 0,
+};
+
+/// A disk with these bytes, of which calls fail where it stands at the place of the fault.
+pub(crate) fn weak_disk(
+    alloc: Global,
+    bytes: &[u8],
+    fault: Fault,
+    place: u64,
+) -> Result<MemoryDisk, AllocError> {
+    let count = if fault.which == place { fault.count } else { 0 };
     let mut fails = Numbers::new(alloc);
     for more in 0..count {
-        fails.push(first.saturating_add(more))?;
+        fails.push(fault.first.saturating_add(more))?;
     }
-    Ok(MemoryDisk::new(alloc, Bytes::from_vec(Vec::new(alloc)), fails))
+    let bytes = Bytes::from_slice(alloc, bytes)?;
+    Ok(MemoryDisk::new(alloc, bytes, fails))
 }
 
-/// Empty disks, of one of which so many calls fail from this number on.
+/// The disk, which stops where it stands at the place of the fault.
+pub(crate) fn fused(disk: MemoryDisk, fault: Fault, place: u64) -> FuseDisk {
+    FuseDisk::new(
+        disk,
+        if fault.which == place {
+            fault.stop
+        } else {
+            u64::MAX
+        },
+    )
+}
+
+/// The disk that a crash leaves, in the image of the fault.
+pub(crate) fn crashed_disk(
+    alloc: Global,
+    disk: FuseDisk,
+    fault: Fault,
+    place: u64,
+) -> Result<FuseDisk, AllocError> {
+    Ok(fused(disk.crash(alloc, fault.image)?, fault, place))
+}
+
+/// The four disks, where all are there.
+pub(crate) fn joined<D: Disk + Drop>(
+    queue: Result<(D, D), AllocError>,
+    store: Result<(D, D), AllocError>,
+) -> Result<Disks<D>, AllocError> {
+    let ((queue_a, queue_b), (store_a, store_b)) = both(queue, store)?;
+    Ok(Disks {
+        queue_a,
+        queue_b,
+        store_a,
+        store_b,
+    })
+}
+
+/// Disks with these two first files, and with two second ones that were never laid.
 pub(crate) fn weak_disks(
     alloc: Global,
-    which: u64,
-    first: u64,
-    count: u64,
+    queue: &[u8],
+    store: &[u8],
+    fault: Fault,
 ) -> Result<Disks<MemoryDisk>, AllocError> {
-    let [queue_a, queue_b, store_a, store_b] = match which {
-        0 => [count, 0, 0, 0],
-        1 => [0, count, 0, 0],
-        2 => [0, 0, count, 0],
-        _ => [0, 0, 0, count],
-    };
-    Ok(Disks {
-        queue_a: weak_disk(alloc, first, queue_a)?,
-        queue_b: weak_disk(alloc, first, queue_b)?,
-        store_a: weak_disk(alloc, first, store_a)?,
-        store_b: weak_disk(alloc, first, store_b)?,
-    })
+    joined(
+        both(
+            weak_disk(alloc, queue, fault, 0),
+            weak_disk(alloc, b"", fault, 1),
+        ),
+        both(
+            weak_disk(alloc, store, fault, 2),
+            weak_disk(alloc, b"", fault, 3),
+        ),
+    )
 }
 
-/// The same disks, of which one stops after so many calls.
-pub(crate) fn fused(disks: Disks<MemoryDisk>, which: u64, calls: u64) -> Disks<FuseDisk> {
-    let [queue_a, queue_b, store_a, store_b] = match which {
-        0 => [calls, u64::MAX, u64::MAX, u64::MAX],
-        1 => [u64::MAX, calls, u64::MAX, u64::MAX],
-        2 => [u64::MAX, u64::MAX, calls, u64::MAX],
-        _ => [u64::MAX, u64::MAX, u64::MAX, calls],
-    };
+/// The disks, of which one stops.
+pub(crate) fn fused_disks(disks: Disks<MemoryDisk>, fault: Fault) -> Disks<FuseDisk> {
+    let Disks {
+        queue_a,
+        queue_b,
+        store_a,
+        store_b,
+    } = disks;
     Disks {
-        queue_a: FuseDisk::new(disks.queue_a, queue_a),
-        queue_b: FuseDisk::new(disks.queue_b, queue_b),
-        store_a: FuseDisk::new(disks.store_a, store_a),
-        store_b: FuseDisk::new(disks.store_b, store_b),
+        queue_a: fused(queue_a, fault, 0),
+        queue_b: fused(queue_b, fault, 1),
+        store_a: fused(store_a, fault, 2),
+        store_b: fused(store_b, fault, 3),
     }
 }
 
-/// The disks that a crash leaves: of each the image of this choice.
-pub(crate) fn crashed(
+/// The disks that a crash leaves.
+pub(crate) fn crashed_disks(
     alloc: Global,
     disks: Disks<FuseDisk>,
-    choice: u64,
-) -> Result<Disks<MemoryDisk>, AllocError> {
-    Ok(Disks {
-        queue_a: disks.queue_a.crash(alloc, choice)?,
-        queue_b: disks.queue_b.crash(alloc, choice)?,
-        store_a: disks.store_a.crash(alloc, choice)?,
-        store_b: disks.store_b.crash(alloc, choice)?,
-    })
+    fault: Fault,
+) -> Result<Disks<FuseDisk>, AllocError> {
+    let Disks {
+        queue_a,
+        queue_b,
+        store_a,
+        store_b,
+    } = disks;
+    joined(
+        both(
+            crashed_disk(alloc, queue_a, fault, 0),
+            crashed_disk(alloc, queue_b, fault, 1),
+        ),
+        both(
+            crashed_disk(alloc, store_a, fault, 2),
+            crashed_disk(alloc, store_b, fault, 3),
+        ),
+    )
 }

@@ -1,26 +1,39 @@
-//! Tests of `command_core` over the disks in memory: commands come in, are claimed, decoded and settled, and what they come to is there
-//! when the files are opened again, also where calls of the disks fail or a disk stops. There is nothing here but tests.
+//! Tests of the core and of what it is made of, over disks in memory: the commands that wait (`supersede_core`), the lines of those that
+//! were given up (`retry_discard`), the keeper of the store (`fleet_keeper`), what an opening reads (`core_opening`), and the core itself
+//! (`command_core`). The cases are lines of text, which `trials` reads. There is nothing here but tests.
 #![tactic(auto)]
 
 #[cfg(test)]
-mod compact_counts;
+mod answers;
 #[cfg(test)]
-mod compact_stops;
+mod core_cases;
 #[cfg(test)]
-mod compacts;
+mod cores;
+#[cfg(test)]
+mod discarded;
 #[cfg(test)]
 mod disks;
 #[cfg(test)]
-mod faults;
+mod keepers;
 #[cfg(test)]
-mod full;
+mod notes;
 #[cfg(test)]
-mod life;
+mod openings;
 #[cfg(test)]
-mod served;
+mod plain;
 #[cfg(test)]
-mod stops;
+mod queue;
+#[cfg(test)]
+mod queue_cases;
+#[cfg(test)]
+mod records;
+#[cfg(test)]
+mod scripts;
+#[cfg(test)]
+mod store_cases;
+#[cfg(test)]
+mod trials;
+#[cfg(test)]
+mod waiting;
 #[cfg(test)]
 mod worker;
-#[cfg(test)]
-mod wrong;

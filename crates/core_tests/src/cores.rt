@@ -1,0 +1,141 @@
+//! Cores over laid disks: sessions between openings and crashes.
+use crate::answers::{SILENCE, Told, answer};
+use crate::disks::{Fault, NO_FAULT, crashed_disks, fused_disks, weak_disks};
+use crate::notes::{Notes, behind, number_of, parted};
+use command_core::{Core, DownBy, LayCoreFault, lay_core, open_core};
+use fleet_keeper::LogKeeper;
+use fleet_ports::{Disk, Disks};
+use fleet_rows::Ttls;
+use port_memory::{FuseDisk, MemoryDisk};
+use std::alloc::{AllocError, Global};
+
+// Whether the files were laid, at the third time where two calls failed.
+fn lay(alloc: Global, disks: &mut Disks<MemoryDisk>) -> bool {
+    'laying: for _ in 0..3 {
+        match lay_core(alloc, disks, Ttls::default_lifetimes()) {
+            Ok(()) | Err(LayCoreFault::AlreadyLaid) => return true,
+            Err(_) => {}
+        }
+    }
+    false
+}
+
+// Disks on which the files were laid; then one of them may stop.
+fn laid(notes: &mut Notes, fault: Fault) -> Result<Disks<FuseDisk>, AllocError> {
+    let mut disks = weak_disks(notes.alloc, b"", b"", fault)?;
+    let said = if lay(notes.alloc, &mut disks) {
+        "laid"
+    } else {
+        "not laid"
+    };
+    behind(notes.compare(said, "laid"), fused_disks(disks, fault))
+}
+
+// A core over the files, at the third time where two calls failed. Else the disks.
+fn opened<D: Disk + Drop>(
+    alloc: Global,
+    disks: Disks<D>,
+) -> Result<Core<D, LogKeeper<D>>, Disks<D>> {
+    let mut disks = disks;
+    'opening: for _ in 0..3 {
+        match open_core(alloc, disks) {
+            Ok(core) => return Ok(core),
+            Err((_fault, back)) => disks = back,
+        }
+    }
+    Err(disks)
+}
+
+fn answer_each<D: Disk + Drop>(
+    notes: &mut Notes,
+    core: &mut Core<D, LogKeeper<D>>,
+    told: &mut Told,
+    text: &str,
+) -> Result<(), AllocError> {
+    for item in text.trim_start_matches('?').split(';') {
+        answer(notes, core, told, item)?;
+    }
+    Ok(())
+}
+
+// Opens the files, and does what the words say. Where the text begins with `?`, the files needn't open.
+fn session<D: Disk + Drop>(
+    notes: &mut Notes,
+    disks: Disks<D>,
+    told: &mut Told,
+    text: &str,
+) -> Result<Disks<D>, AllocError> {
+    match opened(notes.alloc, disks) {
+        Ok(core) => {
+            let mut core = core;
+            let played = answer_each(notes, &mut core, told, text);
+            let disks = core.into_disks();
+            behind(played, disks)
+        }
+        Err(disks) => {
+            let wanted = if text.starts_with('?') { "" } else { "opened" };
+            behind(notes.compare("not opened", wanted), disks)
+        }
+    }
+}
+
+// The disks that a crash leaves, by the words behind `crash`: the choice of the image, which disk stops then, and behind how many
+// calls. Where there are none, the image is that of the fault, and no disk stops.
+fn crashed(
+    alloc: Global,
+    disks: Disks<FuseDisk>,
+    text: &str,
+    fault: Fault,
+) -> Result<Disks<FuseDisk>, AllocError> {
+    let mut next = NO_FAULT;
+    next.image = fault.image;
+    if let Some((image, rest)) = text.split_once(' ') {
+        let (which, calls) = parted(rest, " ");
+        next.image = number_of(image);
+        next.which = number_of(which);
+        next.stop = number_of(calls);
+    }
+    crashed_disks(alloc, disks, next)
+}
+
+fn part(
+    notes: &mut Notes,
+    disks: Disks<FuseDisk>,
+    told: &mut Told,
+    text: &str,
+    fault: Fault,
+) -> Result<Disks<FuseDisk>, AllocError> {
+    match text.strip_prefix("crash") {
+        Some(rest) => crashed(notes.alloc, disks, rest.trim_ascii(), fault),
+        None => session(notes, disks, told, text),
+    }
+}
+
+// The bit, where the fact holds.
+fn bit_at(fact: bool, bit: u64) -> u64 {
+    if fact { bit } else { 0 }
+}
+
+// What the four show between what was told of them and what is left.
+fn shown_by(told: &Told) -> u64 {
+    let [applied, _discarded, waiting] = told.left;
+    let done = told.applied.saturating_add(told.discarded);
+    bit_at(told.received < 4, 1)
+        | bit_at(told.received == 0, 2)
+        | bit_at(told.ended == 4, 4)
+        | bit_at(told.by == DownBy::Queue, 8)
+        | bit_at(told.by == DownBy::Store, 16)
+        | bit_at(applied > told.applied || waiting > told.received, 32)
+        | bit_at(done > told.ended, 64)
+}
+
+/// Tries a script over laid disks: sessions and crashes, with `/` between them.
+pub(crate) fn try_core(notes: &mut Notes, script: &str, fault: Fault) -> Result<u64, AllocError> {
+    let mut disks = laid(notes, fault)?;
+    let mut told = SILENCE;
+    for text in script.split('/') {
+        disks = part(notes, disks, &mut told, text.trim_ascii(), fault)?;
+    }
+    drop(disks);
+    Ok(shown_by(&told))
+}

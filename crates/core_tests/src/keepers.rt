@@ -1,0 +1,352 @@
+//! Keepers of a store's records, over two files and in memory.
+ghost use Rattle.std.specs.Prelude.{◌≡◌, false, IfOk};
+ghost use Rattle.std.specs.List.{AllByRecursion};
+ghost use Rattle.fleet_keeper.specs.record_spec.Store.{IsStoreRecord};
+
+use crate::disks::{Fault, NO_FAULT, crashed_disk, fused, weak_disk};
+use crate::notes::{Notes, behind, both, number_of, parted, says};
+use crate::records::{file, record_of};
+use fleet_keeper::store_records::read_store;
+use fleet_keeper::{
+    Keeper, Kept, MemoryKeeper, Numbers, Side, Spelt, StoreRecord, StoreRecords, open_keeper,
+};
+use fleet_ports::Disk;
+use port_memory::FuseDisk;
+use std::alloc::{AllocError, Global};
+
+// The change with this receipt.
+fn applied(alloc: Global, digit: u8) -> Result<StoreRecord, AllocError>
+    ensures { IfOk result IsStoreRecord }
+{
+    let bytes = record_of(alloc, b'C', digit)?;
+    match read_store(alloc, bytes.as_slice())? {
+        Some(rec) => Ok(rec),
+        None => Err(AllocError),
+    }
+}
+
+// Lifetimes and a base, both with the number 7.
+fn sevens(alloc: Global) -> Result<StoreRecords, AllocError>
+    ensures { IfOk result (λ r. AllByRecursion IsStoreRecord r) }
+{
+    let mut records = StoreRecords::new(alloc);
+    records.push(StoreRecord::Settings(7, 1, 1))?;
+    records.push(StoreRecord::Base(None, None, Some(7)))?;
+    Ok(records)
+}
+
+// Keeps a change, unless the keeper is down. The record is let go by a call, so that no proof walks through its variants at each way
+// out.
+fn put<K: Keeper + Drop>(
+    alloc: Global,
+    keeper: &mut K,
+    digit: u8,
+) -> Result<Option<Kept>, AllocError>
+    requires good { K.down keeper.old ≡ false → K.is_up keeper.old }
+    ensures good { K.down keeper.new ≡ false → K.is_up keeper.new }
+{
+    let rec = applied(alloc, digit)?;
+    if keeper.is_down() {
+        drop(rec);
+        return Ok(None);
+    }
+    let kept = keeper.keep(alloc, &rec);
+    drop(rec);
+    Ok(Some(kept))
+}
+
+// That change as it is spelt.
+fn spelt(alloc: Global, digit: u8) -> Result<Spelt, AllocError> {
+    let rec = applied(alloc, digit)?;
+    let spelt = Spelt::of(alloc, &rec);
+    drop(rec);
+    spelt
+}
+
+// Keeps a change that was spelt beforehand, unless the keeper is down.
+fn put_spelt<K: Keeper + Drop>(
+    alloc: Global,
+    keeper: &mut K,
+    digit: u8,
+) -> Result<Option<Kept>, AllocError>
+    requires good { K.down keeper.old ≡ false → K.is_up keeper.old }
+    ensures good { K.down keeper.new ≡ false → K.is_up keeper.new }
+{
+    let spelt = spelt(alloc, digit)?;
+    if keeper.is_down() {
+        return Ok(None);
+    }
+    Ok(Some(keeper.keep_spelt(alloc, &spelt)))
+}
+
+// Makes a checkpoint of the sevens, unless the keeper is down.
+fn renew<K: Keeper + Drop>(alloc: Global, keeper: &mut K) -> Result<Option<Kept>, AllocError>
+    requires good { K.down keeper.old ≡ false → K.is_up keeper.old }
+    ensures good { K.down keeper.new ≡ false → K.is_up keeper.new }
+{
+    let records = sevens(alloc)?;
+    if keeper.is_down() {
+        return Ok(None);
+    }
+    Ok(Some(keeper.checkpoint(alloc, &records)))
+}
+
+// The number of a record, in the files of these tests.
+fn digit_of(rec: &StoreRecord) -> u64 {
+    match rec {
+        StoreRecord::Settings(number, _, _) => u64::from(*number),
+        StoreRecord::Base(_, _, Some(number)) => *number,
+        StoreRecord::Applied(number, _) => *number,
+        _ => 0,
+    }
+}
+
+// The numbers of the records, as digits.
+fn digits(records: &StoreRecords) -> u64 {
+    let mut digits = 0u64;
+    for rec in records.as_slice() {
+        digits = digits.wrapping_mul(10).wrapping_add(digit_of(rec));
+    }
+    digits
+}
+
+// What a keeper told: its records by what was acknowledged last, as digits, how many faults its answers told, and how many it and its
+// disks counted. And what the last opening found: the digits, and whether they stand in the second file.
+#[derive(Clone, Copy)]
+struct Run {
+    kept: u64,
+    told: u64,
+    faults: u64,
+    counted: u64,
+    left: u64,
+    second: bool,
+}
+
+const UNOPENED: Run = Run {
+    kept: 12,
+    told: 0,
+    faults: 0,
+    counted: 0,
+    left: 0,
+    second: false,
+};
+
+// Counts an answer in: that the sevens were kept, or a change with this number.
+fn count(run: &mut Run, kept: Option<Kept>, number: Option<u64>) {
+    match kept {
+        Some(Kept::Ok) => {
+            run.kept = match number {
+                Some(number) => run.kept.wrapping_mul(10).wrapping_add(number),
+                None => 77,
+            }
+        }
+        Some(Kept::Failed) => run.told = run.told.saturating_add(1),
+        Some(Kept::Down) => run.told = run.told.saturating_add(2),
+        _ => {}
+    }
+}
+
+// One call: `put` and `spelt` keep a change with this number, and `renew` makes a checkpoint.
+fn call<K: Keeper + Drop>(
+    notes: &mut Notes,
+    keeper: &mut K,
+    run: &mut Run,
+    text: &str,
+) -> Result<(), AllocError>
+    requires good { K.down keeper.old ≡ false → K.is_up keeper.old }
+    ensures good { K.down keeper.new ≡ false → K.is_up keeper.new }
+{
+    let alloc = notes.alloc;
+    let (what, wanted) = parted(text, " = ");
+    let (word, digit) = parted(what, " ");
+    let byte = digit.as_bytes().first().copied().unwrap_or(0);
+    let kept = match word {
+        "put" => put(alloc, keeper, byte)?,
+        "spelt" => put_spelt(alloc, keeper, byte)?,
+        "renew" => renew(alloc, keeper)?,
+        _ => return Ok(()),
+    };
+    count(run, kept, (word != "renew").then_some(number_of(digit)));
+    says(notes, kept, wanted)
+}
+
+// Up to four calls, with commas between them.
+fn calls<K: Keeper + Drop>(
+    notes: &mut Notes,
+    keeper: &mut K,
+    run: &mut Run,
+    text: &str,
+) -> Result<(), AllocError>
+    requires good { K.down keeper.old ≡ false → K.is_up keeper.old }
+{
+    let (first, rest) = parted(text, ", ");
+    let (second, rest) = parted(rest, ", ");
+    let (third, fourth) = parted(rest, ", ");
+    call(notes, keeper, run, first)?;
+    call(notes, keeper, run, second)?;
+    call(notes, keeper, run, third)?;
+    call(notes, keeper, run, fourth)
+}
+
+fn all_three(
+    first: Result<(), AllocError>,
+    second: Result<(), AllocError>,
+    third: Result<(), AllocError>,
+) -> Result<(), AllocError> {
+    first?;
+    second?;
+    third
+}
+
+// Opens a keeper, makes the calls and notes the run. Compared are which file counts and the numbers of its records, or why the files
+// aren't opened; the answers; and which file counts then, whether the keeper is down, and its faults.
+fn session<D: Disk + Drop>(
+    notes: &mut Notes,
+    disks: (D, D),
+    run: &mut Run,
+    text: &str,
+) -> Result<(D, D), AllocError> {
+    let (wanted, rest) = parted(text, "; ");
+    let (words, state) = parted(rest, "; ");
+    run.left = 0;
+    run.second = false;
+    let (a, b) = disks;
+    match open_keeper(notes.alloc, a, b) {
+        Ok((keeper, records)) => {
+            let mut keeper = keeper;
+            run.left = digits(&records);
+            run.second = keeper.side() == Side::B;
+            let found = says(notes, (keeper.side(), run.left), wanted);
+            let played = calls(notes, &mut keeper, run, words);
+            run.faults = keeper.faults();
+            let standing = (keeper.side(), keeper.is_down(), run.faults);
+            let stood = says(notes, standing, state);
+            let disks = keeper.into_disks();
+            behind(all_three(found, played, stood), disks)
+        }
+        Err((why, a, b)) => behind(says(notes, why, wanted), (a, b)),
+    }
+}
+
+// Whether the disk has exactly these bytes, at most 96.
+fn has(disk: &mut FuseDisk, bytes: &[u8]) -> bool {
+    let mut buffer = [0; 96];
+    let count = bytes.len();
+    match disk.len() {
+        Ok(len) if len == count as u64 && count <= 96 => {
+            disk.read_at(0, &mut buffer[..count]).is_ok() && &buffer[..count] == bytes
+        }
+        _ => false,
+    }
+}
+
+// Compares the first disk, or the second one, with a file.
+fn has_file(
+    notes: &mut Notes,
+    disks: &mut (FuseDisk, FuseDisk),
+    text: &str,
+) -> Result<(), AllocError> {
+    let (place, names) = parted(text, " ");
+    let bytes = file(notes.alloc, names)?;
+    let same = if place == "a" {
+        has(&mut disks.0, bytes.as_slice())
+    } else {
+        has(&mut disks.1, bytes.as_slice())
+    };
+    says(notes, same, "true")
+}
+
+// Whether the old records stand or the new ones, and the faults were told.
+fn stands(run: &Run) -> bool {
+    let is_there = if run.second {
+        run.left == 77
+    } else {
+        run.left == run.kept || run.kept == 12 && run.left == 123
+    };
+    is_there && run.faults == run.told && run.faults <= run.counted
+}
+
+// The disks that a crash leaves.
+fn crashed(
+    alloc: Global,
+    disks: (FuseDisk, FuseDisk),
+    run: &mut Run,
+    fault: Fault,
+) -> Result<(FuseDisk, FuseDisk), AllocError> {
+    let (a, b) = disks;
+    run.counted = a.faults().saturating_add(b.faults());
+    let mut next = NO_FAULT;
+    next.image = fault.image;
+    both(
+        crashed_disk(alloc, a, next, 0),
+        crashed_disk(alloc, b, next, 1),
+    )
+}
+
+fn part(
+    notes: &mut Notes,
+    disks: (FuseDisk, FuseDisk),
+    run: &mut Run,
+    text: &str,
+    fault: Fault,
+) -> Result<(FuseDisk, FuseDisk), AllocError> {
+    let (word, rest) = parted(text, " ");
+    match word {
+        "crash" => crashed(notes.alloc, disks, run, fault),
+        "has" => {
+            let mut disks = disks;
+            let compared = has_file(notes, &mut disks, rest);
+            behind(compared, disks)
+        }
+        "stands" => {
+            let mut found = *run;
+            let disks = session(notes, disks, &mut found, "")?;
+            run.left = found.left;
+            run.second = found.second;
+            behind(says(notes, stands(run), "true"), disks)
+        }
+        _ => session(notes, disks, run, text),
+    }
+}
+
+// The disk of a file by the names of its records.
+fn disk_of(alloc: Global, names: &str, fault: Fault, place: u64) -> Result<FuseDisk, AllocError> {
+    let bytes = file(alloc, names)?;
+    let disk = weak_disk(alloc, bytes.as_slice(), fault, place)?;
+    Ok(fused(disk, fault, place))
+}
+
+/// Tries a script over two files: sessions of a keeper, `crash`, `has` with a file that a disk is to hold, and `stands`, an opening that
+/// finds what was acknowledged, or a checkpoint that wasn't.
+pub(crate) fn try_keeper(notes: &mut Notes, script: &str, fault: Fault) -> Result<u64, AllocError> {
+    let (files, parts) = parted(script, "/");
+    let (a, b) = parted(files, " ");
+    let mut disks = both(
+        disk_of(notes.alloc, a, fault, 0),
+        disk_of(notes.alloc, b, fault, 1),
+    )?;
+    let mut run = UNOPENED;
+    for text in parts.split('/') {
+        disks = part(notes, disks, &mut run, text, fault)?;
+    }
+    drop(disks);
+    let untold = if run.second && run.kept != 77 { 32 } else { 0 };
+    let down = if run.told == 2 { 128 } else { 0 };
+    Ok(untold | down)
+}
+
+/// Tries a keeper in memory: the numbers of the calls that fail, the calls, and how many there were, the faults, and whether it is down.
+pub(crate) fn try_memory(notes: &mut Notes, script: &str) -> Result<u64, AllocError> {
+    let (list, rest) = parted(script, "/");
+    let (words, wanted) = parted(rest, "/");
+    let mut numbers = Numbers::new(notes.alloc);
+    for word in list.split(' ') {
+        numbers.push(number_of(word))?;
+    }
+    let mut keeper = MemoryKeeper::new(notes.alloc, numbers);
+    let mut run = UNOPENED;
+    calls(notes, &mut keeper, &mut run, words)?;
+    let came = (keeper.calls(), keeper.faults(), keeper.is_down());
+    says(notes, came, wanted)?;
+    Ok(0)
+}

@@ -1,0 +1,69 @@
+//! Commands that wait: what the list of them answers to the words of a case.
+use crate::notes::{Notes, number_of, parted, says};
+use crate::queue::{Queue, command, group};
+use fleet_rows::Kind;
+use std::alloc::{AllocError, Global};
+
+// Adds a command, by its node if the word is of a kind, its stamp and its size. Its receipt, or none where there is no room.
+fn add(
+    alloc: Global,
+    queue: &mut Queue,
+    word: &str,
+    text: &str,
+) -> Result<Option<u64>, AllocError> {
+    let (node, rest) = parted(text, " ");
+    let (stamp, size) = parted(rest, " ");
+    let kind = if word == "catalog" {
+        Kind::Catalog
+    } else {
+        Kind::Facts
+    };
+    let node = (word != "single").then_some(number_of(node) as usize);
+    let group = group(alloc, node, kind, stamp.parse::<i64>().unwrap_or(0))?;
+    let command = command(alloc, number_of(size) as usize)?;
+    queue.add(command, group)
+}
+
+// Adds as many commands of one group as there is room for, their stamps so far apart.
+fn fill(alloc: Global, queue: &mut Queue, apart: i64) -> Result<bool, AllocError> {
+    let sent = command(alloc, 100)?;
+    for at in 0..262_144i64 {
+        let group = group(alloc, Some(7), Kind::Facts, apart.wrapping_mul(at))?;
+        if queue.add(sent.share()?, group)?.is_none() {
+            return Ok(false);
+        }
+    }
+    Ok(true)
+}
+
+// `facts`, `catalog` and `single` add a command of a node's facts or catalog, or of no group, with a stamp and a payload of so many bytes.
+// `fill` adds 262,144 of one group. `mark`, `unmark`, `take` and `fail` stand for a claim, a release, an end and a failure.
+fn answer(notes: &mut Notes, queue: &mut Queue, item: &str) -> Result<(), AllocError> {
+    let alloc = notes.alloc;
+    let (call, wanted) = parted(item.trim_ascii(), " = ");
+    let (word, text) = parted(call, " ");
+    match word {
+        "fill" => {
+            let filled = fill(alloc, queue, text.parse::<i64>().unwrap_or(0))?;
+            says(notes, filled, wanted)
+        }
+        "mark" => says(notes, queue.mark(number_of(text)), wanted),
+        "unmark" => says(notes, queue.unmark(number_of(text)), wanted),
+        "take" => says(notes, queue.take(number_of(text)), wanted),
+        "fail" => says(notes, queue.count_failure(number_of(text)), wanted),
+        "least" => says(notes, queue.pending.least(), wanted),
+        "count" => says(notes, queue.pending.count(), wanted),
+        "queued" => says(notes, queue.pending.queued(), wanted),
+        "size" => says(notes, queue.pending.size(), wanted),
+        _ => says(notes, add(alloc, queue, word, text)?, wanted),
+    }
+}
+
+/// Plays the words over a list in which nothing waits.
+pub(crate) fn try_queue(notes: &mut Notes, script: &str) -> Result<u64, AllocError> {
+    let mut queue = Queue::new(notes.alloc);
+    for item in script.split(';') {
+        answer(notes, &mut queue, item)?;
+    }
+    Ok(0)
+}

@@ -1,0 +1,18 @@
+//! Tests of threads: of the lock by which they take turns (`turn_lock`), and of workers at one core (`fleet_hub`). There is nothing here but
+//! tests.
+#![tactic(auto)]
+
+#[cfg(test)]
+mod drains;
+#[cfg(test)]
+mod gates;
+#[cfg(test)]
+mod hands;
+#[cfg(test)]
+mod made;
+#[cfg(test)]
+mod said;
+#[cfg(test)]
+mod shown;
+#[cfg(test)]
+mod turns;
