@@ -31,16 +31,27 @@ fn laid(notes: &mut Notes, fault: Fault) -> Result<Disks<FuseDisk>, AllocError> 
     behind(notes.compare(said, "laid"), fused_disks(disks, fault))
 }
 
-// A core over the files, at the third time where two calls failed. Else the disks.
+// A core over the files, or the disks. No function above needs what an opening ensures.
+fn opened_once<D: Disk + Drop>(
+    alloc: Global,
+    disks: Disks<D>,
+) -> Result<Core<D, LogKeeper<D>>, Disks<D>> {
+    match open_core(alloc, disks) {
+        Ok(core) => Ok(core),
+        Err((_fault, back)) => Err(back),
+    }
+}
+
+// The same, at the third time where two calls failed.
 fn opened<D: Disk + Drop>(
     alloc: Global,
     disks: Disks<D>,
 ) -> Result<Core<D, LogKeeper<D>>, Disks<D>> {
     let mut disks = disks;
     'opening: for _ in 0..3 {
-        match open_core(alloc, disks) {
+        match opened_once(alloc, disks) {
             Ok(core) => return Ok(core),
-            Err((_fault, back)) => disks = back,
+            Err(back) => disks = back,
         }
     }
     Err(disks)
