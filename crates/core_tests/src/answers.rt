@@ -1,5 +1,5 @@
 //! What a core answers to the words of a session.
-use crate::notes::{Notes, number_of, parted, says};
+use crate::notes::{Notes, number_of, parted, parts_of, says};
 use crate::worker::{Came, rests, send, sweep, work, work_late, work_released};
 use command_core::{Core, DownBy, Submitted, Tally};
 use fleet_keeper::Keeper;
@@ -46,8 +46,7 @@ fn send_facts<D: Disk + Drop, K: Keeper + Drop>(
     core: &mut Core<D, K>,
     text: &str,
 ) -> Result<Submitted, AllocError> {
-    let (node, rest) = parted(text, " ");
-    let (hour, values) = parted(rest, " ");
+    let ([node, hour, values], _) = parts_of(text, " ");
     let payload = format!(in alloc;
         r#"{{"certname":"{node}","values":{values},"producer_timestamp":"2024-05-01T{hour}:00:00Z"}}"#
     )?;

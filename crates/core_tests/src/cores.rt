@@ -1,7 +1,7 @@
 //! Cores over laid disks: sessions between openings and crashes.
 use crate::answers::{SILENCE, Told, answer};
 use crate::disks::{Fault, NO_FAULT, crashed_disks, fused_disks, weak_disks};
-use crate::notes::{Notes, behind, number_of, parted};
+use crate::notes::{Notes, behind, numbers_of, parts_of, says};
 use command_core::{Core, DownBy, LayCoreFault, lay_core, open_core};
 use fleet_keeper::LogKeeper;
 use fleet_ports::{Disk, Disks};
@@ -9,26 +9,22 @@ use fleet_rows::Ttls;
 use port_memory::{FuseDisk, MemoryDisk};
 use std::alloc::{AllocError, Global};
 
-// Whether the files were laid, at the third time where two calls failed.
+// Whether the files are laid.
+fn is_laid(alloc: Global, disks: &mut Disks<MemoryDisk>) -> bool {
+    let laid = lay_core(alloc, disks, Ttls::default_lifetimes());
+    matches!(laid, Ok(()) | Err(LayCoreFault::AlreadyLaid))
+}
+
+// The same, at the third time where two calls failed.
 fn lay(alloc: Global, disks: &mut Disks<MemoryDisk>) -> bool {
-    'laying: for _ in 0..3 {
-        match lay_core(alloc, disks, Ttls::default_lifetimes()) {
-            Ok(()) | Err(LayCoreFault::AlreadyLaid) => return true,
-            Err(_) => {}
-        }
-    }
-    false
+    is_laid(alloc, disks) || is_laid(alloc, disks) || is_laid(alloc, disks)
 }
 
 // Disks on which the files were laid; then one of them may stop.
 fn laid(notes: &mut Notes, fault: Fault) -> Result<Disks<FuseDisk>, AllocError> {
     let mut disks = weak_disks(notes.alloc, b"", b"", fault)?;
-    let said = if lay(notes.alloc, &mut disks) {
-        "laid"
-    } else {
-        "not laid"
-    };
-    behind(notes.compare(said, "laid"), fused_disks(disks, fault))
+    let laid = lay(notes.alloc, &mut disks);
+    behind(says(notes, laid, "true"), fused_disks(disks, fault))
 }
 
 // A core over the files, or the disks. No function above needs what an opening ensures.
@@ -42,19 +38,26 @@ fn opened_once<D: Disk + Drop>(
     }
 }
 
+// The same, at the second time where a call failed.
+fn opened_twice<D: Disk + Drop>(
+    alloc: Global,
+    disks: Disks<D>,
+) -> Result<Core<D, LogKeeper<D>>, Disks<D>> {
+    match opened_once(alloc, disks) {
+        Ok(core) => Ok(core),
+        Err(back) => opened_once(alloc, back),
+    }
+}
+
 // The same, at the third time where two calls failed.
 fn opened<D: Disk + Drop>(
     alloc: Global,
     disks: Disks<D>,
 ) -> Result<Core<D, LogKeeper<D>>, Disks<D>> {
-    let mut disks = disks;
-    'opening: for _ in 0..3 {
-        match opened_once(alloc, disks) {
-            Ok(core) => return Ok(core),
-            Err(back) => disks = back,
-        }
+    match opened_twice(alloc, disks) {
+        Ok(core) => Ok(core),
+        Err(back) => opened_once(alloc, back),
     }
-    Err(disks)
 }
 
 fn answer_each<D: Disk + Drop>(
@@ -90,23 +93,19 @@ fn session<D: Disk + Drop>(
     }
 }
 
-// The disks that a crash leaves, by the words behind `crash`: the choice of the image, which disk stops then, and behind how many
-// calls. Where there are none, the image is that of the fault, and no disk stops.
-fn crashed(
-    alloc: Global,
-    disks: Disks<FuseDisk>,
-    text: &str,
-    fault: Fault,
-) -> Result<Disks<FuseDisk>, AllocError> {
+// The fault behind a crash, by the words behind `crash`: the choice of the image, which disk stops then, and behind how many calls.
+// Where there are none, the image is that of the fault before it, and no disk stops.
+fn fault_behind(text: &str, fault: Fault) -> Fault {
     let mut next = NO_FAULT;
-    next.image = fault.image;
-    if let Some((image, rest)) = text.split_once(' ') {
-        let (which, calls) = parted(rest, " ");
-        next.image = number_of(image);
-        next.which = number_of(which);
-        next.stop = number_of(calls);
+    if text.is_empty() {
+        next.image = fault.image;
+        return next;
     }
-    crashed_disks(alloc, disks, next)
+    let [image, which, calls, _] = numbers_of(text);
+    next.image = image;
+    next.which = which;
+    next.stop = calls;
+    next
 }
 
 fn part(
@@ -116,10 +115,30 @@ fn part(
     text: &str,
     fault: Fault,
 ) -> Result<Disks<FuseDisk>, AllocError> {
+    let text = text.trim_ascii();
+    if text.is_empty() {
+        return Ok(disks);
+    }
     match text.strip_prefix("crash") {
-        Some(rest) => crashed(notes.alloc, disks, rest.trim_ascii(), fault),
+        Some(rest) => crashed_disks(
+            notes.alloc,
+            disks,
+            fault_behind(rest.trim_ascii(), fault),
+        ),
         None => session(notes, disks, told, text),
     }
+}
+
+fn three_parts(
+    notes: &mut Notes,
+    disks: Disks<FuseDisk>,
+    told: &mut Told,
+    [first, second, third]: [&str; 3],
+    fault: Fault,
+) -> Result<Disks<FuseDisk>, AllocError> {
+    let disks = part(notes, disks, told, first, fault)?;
+    let disks = part(notes, disks, told, second, fault)?;
+    part(notes, disks, told, third, fault)
 }
 
 // The bit, where the fact holds.
@@ -140,13 +159,15 @@ fn shown_by(told: &Told) -> u64 {
         | bit_at(done > told.ended, 64)
 }
 
-/// Tries a script over laid disks: sessions and crashes, with `/` between them.
+/// Tries a script over laid disks: six sessions and crashes at most, with `/` between them.
 pub(crate) fn try_core(notes: &mut Notes, script: &str, fault: Fault) -> Result<u64, AllocError> {
-    let mut disks = laid(notes, fault)?;
+    let (first, rest) = parts_of(script, "/");
+    let (second, more) = parts_of(rest, "/");
+    says(notes, more, "\"\"")?;
     let mut told = SILENCE;
-    for text in script.split('/') {
-        disks = part(notes, disks, &mut told, text.trim_ascii(), fault)?;
-    }
+    let disks = laid(notes, fault)?;
+    let disks = three_parts(notes, disks, &mut told, first, fault)?;
+    let disks = three_parts(notes, disks, &mut told, second, fault)?;
     drop(disks);
     Ok(shown_by(&told))
 }

@@ -4,7 +4,7 @@ ghost use Rattle.std.specs.List.{AllByRecursion};
 ghost use Rattle.fleet_keeper.specs.record_spec.Store.{IsStoreRecord};
 
 use crate::disks::{Fault, NO_FAULT, crashed_disk, fused, weak_disk};
-use crate::notes::{Notes, behind, both, number_of, parted, says};
+use crate::notes::{Notes, behind, both, number_of, parted, parts_of, says};
 use crate::records::{file, record_of};
 use fleet_keeper::store_records::read_store;
 use fleet_keeper::{
@@ -179,9 +179,7 @@ fn calls<K: Keeper + Drop>(
 ) -> Result<(), AllocError>
     requires good { K.down keeper.old ≡ false → K.is_up keeper.old }
 {
-    let (first, rest) = parted(text, ", ");
-    let (second, rest) = parted(rest, ", ");
-    let (third, fourth) = parted(rest, ", ");
+    let ([first, second, third], fourth) = parts_of(text, ", ");
     call(notes, keeper, run, first)?;
     call(notes, keeper, run, second)?;
     call(notes, keeper, run, third)?;
@@ -206,8 +204,7 @@ fn session<D: Disk + Drop>(
     run: &mut Run,
     text: &str,
 ) -> Result<(D, D), AllocError> {
-    let (wanted, rest) = parted(text, "; ");
-    let (words, state) = parted(rest, "; ");
+    let ([wanted, words, state], _) = parts_of(text, "; ");
     run.left = 0;
     run.second = false;
     let (a, b) = disks;
@@ -283,6 +280,30 @@ fn crashed(
     )
 }
 
+// The disks, of which one is compared with a file.
+fn compared(
+    notes: &mut Notes,
+    disks: (FuseDisk, FuseDisk),
+    text: &str,
+) -> Result<(FuseDisk, FuseDisk), AllocError> {
+    let mut disks = disks;
+    let compared = has_file(notes, &mut disks, text);
+    behind(compared, disks)
+}
+
+// Opens a keeper, and compares whether it stands as the run says.
+fn standing(
+    notes: &mut Notes,
+    disks: (FuseDisk, FuseDisk),
+    run: &mut Run,
+) -> Result<(FuseDisk, FuseDisk), AllocError> {
+    let mut found = *run;
+    let disks = session(notes, disks, &mut found, "")?;
+    run.left = found.left;
+    run.second = found.second;
+    behind(says(notes, stands(run), "true"), disks)
+}
+
 fn part(
     notes: &mut Notes,
     disks: (FuseDisk, FuseDisk),
@@ -292,19 +313,10 @@ fn part(
 ) -> Result<(FuseDisk, FuseDisk), AllocError> {
     let (word, rest) = parted(text, " ");
     match word {
+        "" => Ok(disks),
         "crash" => crashed(notes.alloc, disks, run, fault),
-        "has" => {
-            let mut disks = disks;
-            let compared = has_file(notes, &mut disks, rest);
-            behind(compared, disks)
-        }
-        "stands" => {
-            let mut found = *run;
-            let disks = session(notes, disks, &mut found, "")?;
-            run.left = found.left;
-            run.second = found.second;
-            behind(says(notes, stands(run), "true"), disks)
-        }
+        "has" => compared(notes, disks, rest),
+        "stands" => standing(notes, disks, run),
         _ => session(notes, disks, run, text),
     }
 }
@@ -316,37 +328,51 @@ fn disk_of(alloc: Global, names: &str, fault: Fault, place: u64) -> Result<FuseD
     Ok(fused(disk, fault, place))
 }
 
-/// Tries a script over two files: sessions of a keeper, `crash`, `has` with a file that a disk is to hold, and `stands`, an opening that
-/// finds what was acknowledged, or a checkpoint that wasn't.
+// That the new records stand though no answer told of them, and that the keeper went down.
+fn shown_by(run: &Run) -> u64 {
+    let untold = if run.second && run.kept != 77 { 32 } else { 0 };
+    if run.told == 2 { untold | 128 } else { untold }
+}
+
+/// Tries a script over two files, four parts at most: sessions of a keeper, `crash`, `has` with a file that a disk is to hold, and `stands`,
+/// an opening that finds what was acknowledged, or a checkpoint that wasn't.
 pub(crate) fn try_keeper(notes: &mut Notes, script: &str, fault: Fault) -> Result<u64, AllocError> {
-    let (files, parts) = parted(script, "/");
+    let ([files, first, second], rest) = parts_of(script, "/");
+    let ([third, fourth, more], _) = parts_of(rest, "/");
+    says(notes, more, "\"\"")?;
     let (a, b) = parted(files, " ");
-    let mut disks = both(
+    let disks = both(
         disk_of(notes.alloc, a, fault, 0),
         disk_of(notes.alloc, b, fault, 1),
     )?;
     let mut run = UNOPENED;
-    for text in parts.split('/') {
-        disks = part(notes, disks, &mut run, text, fault)?;
-    }
+    let disks = part(notes, disks, &mut run, first, fault)?;
+    let disks = part(notes, disks, &mut run, second, fault)?;
+    let disks = part(notes, disks, &mut run, third, fault)?;
+    let disks = part(notes, disks, &mut run, fourth, fault)?;
     drop(disks);
-    let untold = if run.second && run.kept != 77 { 32 } else { 0 };
-    let down = if run.told == 2 { 128 } else { 0 };
-    Ok(untold | down)
+    Ok(shown_by(&run))
+}
+
+// Two numbers of calls; 0 is the number of none.
+fn two_numbers(alloc: Global, list: &str) -> Result<Numbers, AllocError> {
+    let (first, second) = parted(list, " ");
+    let mut numbers = Numbers::new(alloc);
+    numbers.push(number_of(first))?;
+    numbers.push(number_of(second))?;
+    Ok(numbers)
 }
 
 /// Tries a keeper in memory: the numbers of the calls that fail, the calls, and how many there were, the faults, and whether it is down.
 pub(crate) fn try_memory(notes: &mut Notes, script: &str) -> Result<u64, AllocError> {
-    let (list, rest) = parted(script, "/");
-    let (words, wanted) = parted(rest, "/");
-    let mut numbers = Numbers::new(notes.alloc);
-    for word in list.split(' ') {
-        numbers.push(number_of(word))?;
-    }
+    let ([list, words, wanted], _) = parts_of(script, "/");
+    let numbers = two_numbers(notes.alloc, list)?;
     let mut keeper = MemoryKeeper::new(notes.alloc, numbers);
     let mut run = UNOPENED;
-    calls(notes, &mut keeper, &mut run, words)?;
+    let played = calls(notes, &mut keeper, &mut run, words);
     let came = (keeper.calls(), keeper.faults(), keeper.is_down());
+    drop(keeper);
+    played?;
     says(notes, came, wanted)?;
     Ok(0)
 }

@@ -12,6 +12,27 @@ pub(crate) fn number_of(word: &str) -> u64 {
     word.parse::<u64>().unwrap_or(0)
 }
 
+/// The numbers that four words spell, with blanks between them; 0 for each that lacks.
+pub(crate) fn numbers_of(text: &str) -> [u64; 4] {
+    let (first, rest) = parted(text, " ");
+    let (second, rest) = parted(rest, " ");
+    let (third, fourth) = parted(rest, " ");
+    [
+        number_of(first),
+        number_of(second),
+        number_of(third),
+        number_of(fourth),
+    ]
+}
+
+/// The first three parts of a text, and what stands behind them.
+pub(crate) fn parts_of<'a>(text: &'a str, mark: &str) -> ([&'a str; 3], &'a str) {
+    let (first, rest) = parted(text, mark);
+    let (second, rest) = parted(rest, mark);
+    let (third, rest) = parted(rest, mark);
+    ([first, second, third], rest)
+}
+
 /// What the answers so far lack, and which trial of which case goes on.
 #[derive(Drop)]
 pub(crate) struct Notes {

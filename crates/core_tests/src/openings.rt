@@ -1,10 +1,11 @@
 //! What an opening reads in files.
 use crate::disks::{Fault, weak_disks};
-use crate::notes::{Notes, behind, parted, says};
+use crate::notes::{Notes, behind, parted, parts_of, says};
 use crate::records::file;
 use core_opening::open_state;
 use fleet_ports::{Disk, Disks};
 use fleet_rows::Entity;
+use port_memory::MemoryDisk;
 use std::alloc::AllocError;
 
 // Opens the files, and compares what is found: how many commands wait and were given up, the last receipt, and how many nodes are known;
@@ -36,20 +37,31 @@ fn found<D: Disk + Drop>(
     }
 }
 
-/// Opens the files of a queue and a store, by the names of their records, and compares what is found, once for each text behind them.
+// The same, where there is a text.
+fn found_again(
+    notes: &mut Notes,
+    disks: Disks<MemoryDisk>,
+    wanted: &str,
+) -> Result<Disks<MemoryDisk>, AllocError> {
+    if wanted.is_empty() {
+        return Ok(disks);
+    }
+    found(notes, disks, wanted)
+}
+
+/// Opens the files of a queue and a store, by the names of their records, and compares what is found, once or twice.
 pub(crate) fn try_opening(
     notes: &mut Notes,
     script: &str,
     fault: Fault,
 ) -> Result<u64, AllocError> {
-    let (files, wanted) = parted(script, "/");
+    let ([files, first, second], _) = parts_of(script, "/");
     let (queue, store) = parted(files, " ");
     let queue = file(notes.alloc, queue)?;
     let store = file(notes.alloc, store)?;
-    let mut disks = weak_disks(notes.alloc, queue.as_slice(), store.as_slice(), fault)?;
-    for text in wanted.split('/') {
-        disks = found(notes, disks, text)?;
-    }
+    let disks = weak_disks(notes.alloc, queue.as_slice(), store.as_slice(), fault)?;
+    let disks = found(notes, disks, first)?;
+    let disks = found_again(notes, disks, second)?;
     drop(disks);
     Ok(0)
 }

@@ -75,18 +75,28 @@ fn add_frame(file: &mut Vec<u8>, text: &[u8]) -> Result<(), AllocError> {
     file.extend_from_slice(text)
 }
 
+// Adds the frame of a record.
+fn add_record(
+    alloc: Global,
+    file: &mut Vec<u8>,
+    name: u8,
+    digit: u8,
+) -> Result<(), AllocError> {
+    let text = record_of(alloc, name, digit)?;
+    add_frame(file, text.as_slice())
+}
+
 // Adds a frame for each record: its name and its digit.
 fn add_frames(alloc: Global, file: &mut Vec<u8>, names: &str) -> Result<(), AllocError> {
     let mut name = None;
     for letter in names.bytes() {
-        match name {
-            None => name = Some(letter),
-            Some(first) => {
-                let text = record_of(alloc, first, letter)?;
-                add_frame(file, text.as_slice())?;
-                name = None;
+        name = match name {
+            None => Some(letter),
+            Some(name) => {
+                add_record(alloc, file, name, letter)?;
+                None
             }
-        }
+        };
     }
     Ok(())
 }

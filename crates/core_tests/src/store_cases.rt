@@ -111,8 +111,8 @@ const KEEPERS: &str = "# a file of a greater generation
 # a change that was kept is there when it is opened again
 1:S1B2 =/(A, 12); put 5 = Some(Ok); (A, false, 0)/has a 1:S1B2C5/(A, 125)
 # each fault and each stop leaves the old records or the new ones
-weak 0 0 23 5/1:S1B2 =old/; put 3, renew/crash/stands
-weak 1 0 23 5/1:S1B2 =old/; put 3, renew/crash/stands
+weak 0 0 23 5 = nothing/1:S1B2 =old/; put 3, renew/crash/stands
+weak 1 0 23 5 = nothing/1:S1B2 =old/; put 3, renew/crash/stands
 stops 0 0 23 5 = down/1:S1B2 =old/; put 3, renew/crash/stands
 stops 1 0 23 5 = untold down/1:S1B2 =old/; put 3, renew/crash/stands";
 

@@ -2,7 +2,7 @@
 use crate::cores::try_core;
 use crate::disks::{Fault, NO_FAULT};
 use crate::keepers::{try_keeper, try_memory};
-use crate::notes::{Notes, number_of, parted};
+use crate::notes::{Notes, numbers_of, parted};
 use crate::openings::try_opening;
 use crate::waiting::try_queue;
 use std::alloc::{AllocError, Global};
@@ -42,13 +42,16 @@ fn trial(notes: &mut Notes, kind: &str, script: &str, fault: Fault) -> Result<u6
 }
 
 /// What trials may show: a command got no receipt, or none did; all four ended; the core is down by its queue or its store; more is
-/// found than was told; a change is there whose end wasn't told; the keeper went down.
+/// found than was told; a change is there whose end wasn't told; the keeper went down. Where they show none of it, they say `nothing`.
 static SHOWN: [&str; 8] = [
     " less", " silent", " whole", " queue", " store", " untold", " undone", " down",
 ];
 
 // The words for these bits.
 fn words_of(alloc: Global, shown: u64) -> Result<String, AllocError> {
+    if shown == 0 {
+        return String::from_str(alloc, "nothing");
+    }
     let mut text = String::new(alloc);
     let mut left = shown;
     for word in SHOWN.iter() {
@@ -60,32 +63,43 @@ fn words_of(alloc: Global, shown: u64) -> Result<String, AllocError> {
     Ok(text)
 }
 
-// The numbers of a head: the disk, the first call, the last call, and how many variants there are.
-fn numbers_of(text: &str) -> [u64; 4] {
-    let (which, rest) = parted(text, " ");
-    let (first, rest) = parted(rest, " ");
-    let (last, variants) = parted(rest, " ");
-    [
-        number_of(which),
-        number_of(first),
-        number_of(last),
-        number_of(variants),
-    ]
+// Tries the script at this call of the disk, in each variant. What the trials showed.
+fn try_variants(
+    notes: &mut Notes,
+    kind: &str,
+    script: &str,
+    word: &str,
+    [which, call, variants]: [u64; 3],
+) -> Result<u64, AllocError> {
+    let mut shown = 0;
+    notes.call = call;
+    'variants: for variant in 0..variants {
+        notes.variant = variant;
+        shown |= trial(notes, kind, script, fault_of(word, which, call, variant))?;
+    }
+    Ok(shown)
 }
 
-// Tries the script at each of these calls, in each variant, and compares what was shown.
+// Tries it at each of these calls: the numbers of the head are the disk, the first call, the last call, and how many variants there are.
+fn try_calls(
+    notes: &mut Notes,
+    kind: &str,
+    script: &str,
+    word: &str,
+    [which, first, last, variants]: [u64; 4],
+) -> Result<u64, AllocError> {
+    let mut shown = 0;
+    'calls: for call in first..last.saturating_add(1) {
+        shown |= try_variants(notes, kind, script, word, [which, call, variants])?;
+    }
+    Ok(shown)
+}
+
+// Tries the script as its head says, and compares what was shown.
 fn try_each(notes: &mut Notes, kind: &str, head: &str, script: &str) -> Result<(), AllocError> {
     let (word, rest) = parted(head, " ");
     let (numbers, wanted) = parted(rest, " = ");
-    let [which, first, last, variants] = numbers_of(numbers);
-    let mut shown = 0;
-    for call in first..=last {
-        for variant in 0..variants {
-            notes.call = call;
-            notes.variant = variant;
-            shown |= trial(notes, kind, script, fault_of(word, which, call, variant))?;
-        }
-    }
+    let shown = try_calls(notes, kind, script, word, numbers_of(numbers))?;
     let words = words_of(notes.alloc, shown)?;
     notes.compare(words.as_str().trim_ascii(), wanted)
 }

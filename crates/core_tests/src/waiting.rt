@@ -1,5 +1,5 @@
 //! Commands that wait: what the list of them answers to the words of a case.
-use crate::notes::{Notes, number_of, parted, says};
+use crate::notes::{Notes, number_of, parted, parts_of, says};
 use crate::queue::{Queue, command, group};
 use fleet_rows::Kind;
 use std::alloc::{AllocError, Global};
@@ -11,8 +11,7 @@ fn add(
     word: &str,
     text: &str,
 ) -> Result<Option<u64>, AllocError> {
-    let (node, rest) = parted(text, " ");
-    let (stamp, size) = parted(rest, " ");
+    let ([node, stamp, size], _) = parts_of(text, " ");
     let kind = if word == "catalog" {
         Kind::Catalog
     } else {
