@@ -120,11 +120,7 @@ fn part(
         return Ok(disks);
     }
     match text.strip_prefix("crash") {
-        Some(rest) => crashed_disks(
-            notes.alloc,
-            disks,
-            fault_behind(rest.trim_ascii(), fault),
-        ),
+        Some(rest) => crashed_disks(notes.alloc, disks, fault_behind(rest.trim_ascii(), fault)),
         None => session(notes, disks, told, text),
     }
 }
@@ -133,9 +129,10 @@ fn three_parts(
     notes: &mut Notes,
     disks: Disks<FuseDisk>,
     told: &mut Told,
-    [first, second, third]: [&str; 3],
+    texts: [&str; 3],
     fault: Fault,
 ) -> Result<Disks<FuseDisk>, AllocError> {
+    let [first, second, third] = texts;
     let disks = part(notes, disks, told, first, fault)?;
     let disks = part(notes, disks, told, second, fault)?;
     part(notes, disks, told, third, fault)
@@ -163,7 +160,7 @@ fn shown_by(told: &Told) -> u64 {
 pub(crate) fn try_core(notes: &mut Notes, script: &str, fault: Fault) -> Result<u64, AllocError> {
     let (first, rest) = parts_of(script, "/");
     let (second, more) = parts_of(rest, "/");
-    says(notes, more, "\"\"")?;
+    says(notes, more.is_empty(), "true")?;
     let mut told = SILENCE;
     let disks = laid(notes, fault)?;
     let disks = three_parts(notes, disks, &mut told, first, fault)?;

@@ -339,7 +339,7 @@ fn shown_by(run: &Run) -> u64 {
 pub(crate) fn try_keeper(notes: &mut Notes, script: &str, fault: Fault) -> Result<u64, AllocError> {
     let ([files, first, second], rest) = parts_of(script, "/");
     let ([third, fourth, more], _) = parts_of(rest, "/");
-    says(notes, more, "\"\"")?;
+    says(notes, more.is_empty(), "true")?;
     let (a, b) = parted(files, " ");
     let disks = both(
         disk_of(notes.alloc, a, fault, 0),

@@ -76,12 +76,7 @@ fn add_frame(file: &mut Vec<u8>, text: &[u8]) -> Result<(), AllocError> {
 }
 
 // Adds the frame of a record.
-fn add_record(
-    alloc: Global,
-    file: &mut Vec<u8>,
-    name: u8,
-    digit: u8,
-) -> Result<(), AllocError> {
+fn add_record(alloc: Global, file: &mut Vec<u8>, name: u8, digit: u8) -> Result<(), AllocError> {
     let text = record_of(alloc, name, digit)?;
     add_frame(file, text.as_slice())
 }

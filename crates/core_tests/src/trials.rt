@@ -69,8 +69,9 @@ fn try_variants(
     kind: &str,
     script: &str,
     word: &str,
-    [which, call, variants]: [u64; 3],
+    numbers: [u64; 3],
 ) -> Result<u64, AllocError> {
+    let [which, call, variants] = numbers;
     let mut shown = 0;
     notes.call = call;
     'variants: for variant in 0..variants {
@@ -86,8 +87,9 @@ fn try_calls(
     kind: &str,
     script: &str,
     word: &str,
-    [which, first, last, variants]: [u64; 4],
+    numbers: [u64; 4],
 ) -> Result<u64, AllocError> {
+    let [which, first, last, variants] = numbers;
     let mut shown = 0;
     'calls: for call in first..last.saturating_add(1) {
         shown |= try_variants(notes, kind, script, word, [which, call, variants])?;
