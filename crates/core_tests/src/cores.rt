@@ -1,7 +1,7 @@
 //! Cores over laid disks: sessions between openings and crashes.
 use crate::answers::{SILENCE, Told, answer};
 use crate::disks::{Fault, NO_FAULT, crashed_disks, fused_disks, weak_disks};
-use crate::notes::{Notes, behind, numbers_of, parts_of, says};
+use crate::notes::{Notes, behind, numbers_of, parted, parts_of, says};
 use command_core::{Core, DownBy, LayCoreFault, lay_core, open_core};
 use fleet_keeper::LogKeeper;
 use fleet_ports::{Disk, Disks};
@@ -66,8 +66,14 @@ fn answer_each<D: Disk + Drop>(
     told: &mut Told,
     text: &str,
 ) -> Result<(), AllocError> {
-    for item in text.trim_start_matches('?').split(';') {
+    let mut rest = text.trim_start_matches('?');
+    'items: for _ in 0..text.len() {
+        let (item, more) = parted(rest, ";");
         answer(notes, core, told, item)?;
+        if more.is_empty() {
+            return Ok(());
+        }
+        rest = more;
     }
     Ok(())
 }

@@ -1,5 +1,5 @@
 //! Files by the names of their records.
-use crate::notes::number_of;
+use crate::notes::{number_of, parted};
 use std::alloc::{AllocError, Global};
 
 /// The records, each by a letter and its bytes, where `#` stands for a number of one digit.
@@ -38,12 +38,15 @@ l\x06\x03\0\0\0\x01\0\0\0\x01\0\0\0\x09\0\0\0|\
 !\x09|\
 -";
 
-// The row of a name.
+// The row of a name, behind its letter.
 fn row_of(name: u8) -> &'static str {
-    for row in RECORDS.split('|') {
-        if row.as_bytes().first().copied() == Some(name) {
-            return row;
+    let mut rest = RECORDS;
+    'rows: for _ in 0..RECORDS.len() {
+        let (row, more) = parted(rest, "|");
+        if let Some(text) = row.strip_prefix(name as char) {
+            return text;
         }
+        rest = more;
     }
     ""
 }
@@ -60,10 +63,8 @@ fn byte_of(letter: char, digit: u8) -> u8 {
 /// The bytes of a record, by its name and its digit.
 pub(crate) fn record_of(alloc: Global, name: u8, digit: u8) -> Result<Vec<u8>, AllocError> {
     let mut bytes = Vec::new(alloc);
-    for (at, letter) in row_of(name).chars().enumerate() {
-        if at > 0 {
-            bytes.push(byte_of(letter, digit))?;
-        }
+    'letters: for letter in row_of(name).chars() {
+        bytes.push(byte_of(letter, digit))?;
     }
     Ok(bytes)
 }
@@ -81,17 +82,16 @@ fn add_record(alloc: Global, file: &mut Vec<u8>, name: u8, digit: u8) -> Result<
     add_frame(file, text.as_slice())
 }
 
+fn letter_at(names: &[u8], at: usize) -> u8 {
+    names.get(at).copied().unwrap_or(b'-')
+}
+
 // Adds a frame for each record: its name and its digit.
-fn add_frames(alloc: Global, file: &mut Vec<u8>, names: &str) -> Result<(), AllocError> {
-    let mut name = None;
-    for letter in names.bytes() {
-        name = match name {
-            None => Some(letter),
-            Some(name) => {
-                add_record(alloc, file, name, letter)?;
-                None
-            }
-        };
+fn add_frames(alloc: Global, file: &mut Vec<u8>, names: &[u8]) -> Result<(), AllocError> {
+    'records: for at in 0..names.len() / 2 {
+        let first = at.wrapping_mul(2);
+        let digit = letter_at(names, first.wrapping_add(1));
+        add_record(alloc, file, letter_at(names, first), digit)?;
     }
     Ok(())
 }
@@ -104,7 +104,7 @@ pub(crate) fn file(alloc: Global, text: &str) -> Result<Vec<u8>, AllocError> {
     let (generation, names) = text.split_once(':').unwrap_or(("1", text));
     let mut file = b"\x01PDBLOG1".to_vec(alloc)?;
     file.extend_from_slice(&number_of(generation).to_le_bytes())?;
-    add_frames(alloc, &mut file, names)?;
+    add_frames(alloc, &mut file, names.as_bytes())?;
     file.push(0)?;
     Ok(file)
 }

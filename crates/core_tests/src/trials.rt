@@ -129,9 +129,15 @@ pub(crate) fn try_all<R: Abort>(
     cases: &str,
 ) -> Result<(), AllocError> {
     let mut notes = Notes::new(alloc);
-    for (at, case) in cases.split(mark).enumerate() {
+    let mut rest = cases;
+    'cases: for at in 0..cases.len() {
+        let (case, more) = parted(rest, mark);
         notes.case = at;
         try_case(&mut notes, kind, case)?;
+        if more.is_empty() {
+            break;
+        }
+        rest = more;
     }
     assert!(rt; notes.text.is_empty(), "{}", notes.text);
     Ok(())

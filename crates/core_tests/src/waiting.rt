@@ -61,8 +61,14 @@ fn answer(notes: &mut Notes, queue: &mut Queue, item: &str) -> Result<(), AllocE
 /// Plays the words over a list in which nothing waits.
 pub(crate) fn try_queue(notes: &mut Notes, script: &str) -> Result<u64, AllocError> {
     let mut queue = Queue::new(notes.alloc);
-    for item in script.split(';') {
+    let mut rest = script;
+    'items: for _ in 0..script.len() {
+        let (item, more) = parted(rest, ";");
         answer(notes, &mut queue, item)?;
+        if more.is_empty() {
+            return Ok(0);
+        }
+        rest = more;
     }
     Ok(0)
 }
