@@ -1,5 +1,5 @@
 //! What a core answers to the words of a session.
-use crate::notes::{Notes, number_of, parted, parts_of, says};
+use crate::notes::{Notes, gives, number_of, parted, parts_of, says};
 use crate::worker::{Came, rests, send, sweep, work, work_late, work_released};
 use command_core::{Core, DownBy, Submitted, Tally};
 use fleet_keeper::Keeper;
@@ -203,8 +203,8 @@ fn work_often<D: Disk + Drop, K: Keeper + Drop>(
     wanted: &str,
 ) -> Result<(), AllocError> {
     for _ in 0..times {
-        let came = work(notes.alloc, core)?;
-        says(notes, came, wanted)?;
+        let came = work(notes.alloc, core);
+        gives(notes, came, wanted)?;
     }
     Ok(())
 }
@@ -250,22 +250,22 @@ pub(crate) fn answer<D: Disk + Drop, K: Keeper + Drop>(
     let (call, wanted) = parted(item.trim_ascii(), " = ");
     let (word, text) = parted(call, " ");
     match word {
-        "send" => says(notes, send_facts(alloc, core, text)?, wanted),
-        "raw" => says(notes, send(alloc, core, text)?, wanted),
-        "four" => says(notes, send_four(alloc, core, true)?, wanted),
+        "send" => gives(notes, send_facts(alloc, core, text), wanted),
+        "raw" => gives(notes, send(alloc, core, text), wanted),
+        "four" => gives(notes, send_four(alloc, core, true), wanted),
         "serve" => serve(alloc, core, told, true),
         "firmly" => serve(alloc, core, told, false),
         "work" => work_often(notes, core, number_of(text), wanted),
-        "drain" => says(notes, turns(alloc, core, false)?, wanted),
-        "late" => says(notes, work_late(alloc, core)?, wanted),
-        "released" => says(notes, work_released(alloc, core)?, wanted),
-        "sweep" => says(notes, sweep(core)?, wanted),
+        "drain" => gives(notes, turns(alloc, core, false), wanted),
+        "late" => gives(notes, work_late(alloc, core), wanted),
+        "released" => gives(notes, work_released(alloc, core), wanted),
+        "sweep" => gives(notes, sweep(core), wanted),
         "compact" => says(notes, core.compact(), wanted),
         "tally" => says(notes, counts(core), wanted),
         "standing" => says(notes, standing(core), wanted),
         "pending" => says(notes, core.pending(), wanted),
         "nodes" => says(notes, core.tables().count(Entity::Nodes), wanted),
         "down" => says(notes, core.down_by(), wanted),
-        _ => says(notes, is_so(alloc, core, told, word, text)?, wanted),
+        _ => gives(notes, is_so(alloc, core, told, word, text), wanted),
     }
 }

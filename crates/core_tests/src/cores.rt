@@ -78,6 +78,10 @@ fn answer_each<D: Disk + Drop>(
     Ok(())
 }
 
+fn unopened(notes: &mut Notes, text: &str) -> Result<(), AllocError> {
+    says(notes, text.starts_with('?'), "true")
+}
+
 // Opens the files, and does what the words say. Where the text begins with `?`, the files needn't open.
 fn session<D: Disk + Drop>(
     notes: &mut Notes,
@@ -92,10 +96,7 @@ fn session<D: Disk + Drop>(
             let disks = core.into_disks();
             behind(played, disks)
         }
-        Err(disks) => {
-            let wanted = if text.starts_with('?') { "" } else { "opened" };
-            behind(notes.compare("not opened", wanted), disks)
-        }
+        Err(disks) => behind(unopened(notes, text), disks),
     }
 }
 

@@ -146,7 +146,25 @@ fn count(run: &mut Run, kept: Option<Kept>, number: Option<u64>) {
     }
 }
 
-// One call: `put` and `spelt` keep a change with this number, and `renew` makes a checkpoint.
+// `put` and `spelt` keep a change with this number, and `renew` makes a checkpoint.
+fn kept_by<K: Keeper + Drop>(
+    alloc: Global,
+    keeper: &mut K,
+    word: &str,
+    digit: u8,
+) -> Result<Option<Kept>, AllocError>
+    requires good { K.down keeper.old ≡ false → K.is_up keeper.old }
+    ensures good { K.down keeper.new ≡ false → K.is_up keeper.new }
+{
+    match word {
+        "put" => put(alloc, keeper, digit),
+        "spelt" => put_spelt(alloc, keeper, digit),
+        "renew" => renew(alloc, keeper),
+        _ => Ok(None),
+    }
+}
+
+// One call, whose answer is counted and compared.
 fn call<K: Keeper + Drop>(
     notes: &mut Notes,
     keeper: &mut K,
@@ -160,12 +178,7 @@ fn call<K: Keeper + Drop>(
     let (what, wanted) = parted(text, " = ");
     let (word, digit) = parted(what, " ");
     let byte = digit.as_bytes().first().copied().unwrap_or(0);
-    let kept = match word {
-        "put" => put(alloc, keeper, byte)?,
-        "spelt" => put_spelt(alloc, keeper, byte)?,
-        "renew" => renew(alloc, keeper)?,
-        _ => return Ok(()),
-    };
+    let kept = kept_by(alloc, keeper, word, byte)?;
     count(run, kept, (word != "renew").then_some(number_of(digit)));
     says(notes, kept, wanted)
 }
@@ -212,6 +225,7 @@ fn session<D: Disk + Drop>(
         Ok((keeper, records)) => {
             let mut keeper = keeper;
             run.left = digits(&records);
+            drop(records);
             run.second = keeper.side() == Side::B;
             let found = says(notes, (keeper.side(), run.left), wanted);
             let played = calls(notes, &mut keeper, run, words);

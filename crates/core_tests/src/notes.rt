@@ -79,6 +79,18 @@ pub(crate) fn says<T: Debug + Drop>(
     notes.compare(said.as_str(), wanted)
 }
 
+/// Compares the answer of a call that found memory.
+pub(crate) fn gives<T: Debug + Drop>(
+    notes: &mut Notes,
+    answer: Result<T, AllocError>,
+    wanted: &str,
+) -> Result<(), AllocError> {
+    match answer {
+        Ok(answer) => says(notes, answer, wanted),
+        Err(fault) => Err(fault),
+    }
+}
+
 /// The value behind a call that found memory.
 pub(crate) fn behind<T: Drop>(played: Result<(), AllocError>, value: T) -> Result<T, AllocError> {
     match played {

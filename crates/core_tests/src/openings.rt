@@ -2,36 +2,53 @@
 use crate::disks::{Fault, weak_disks};
 use crate::notes::{Notes, behind, parted, parts_of, says};
 use crate::records::file;
-use core_opening::open_state;
+use core_opening::{OpenCoreFault, open_state};
+use core_state::CoreState;
+use fleet_keeper::LogKeeper;
 use fleet_ports::{Disk, Disks};
 use fleet_rows::Entity;
 use port_memory::MemoryDisk;
-use std::alloc::AllocError;
+use std::alloc::{AllocError, Global};
 
-// Opens the files, and compares what is found: how many commands wait and were given up, the last receipt, and how many nodes are known;
-// or why they aren't opened.
+// The parts of a core over the files, or the disks. No function above needs what an opening ensures.
+fn opened<D: Disk + Drop>(
+    alloc: Global,
+    disks: Disks<D>,
+) -> Result<CoreState<D, LogKeeper<D>>, (OpenCoreFault, Disks<D>)> {
+    open_state(alloc, disks)
+}
+
+// How many commands wait and were given up, the last receipt, and how many nodes are known.
+fn counted<D: Disk + Drop>(core: &CoreState<D, LogKeeper<D>>) -> (u32, usize, u64, usize) {
+    (
+        core.pending.count(),
+        core.discards.count(),
+        core.last,
+        core.tables.count(Entity::Nodes),
+    )
+}
+
+fn disks_in<D: Disk + Drop>(core: CoreState<D, LogKeeper<D>>) -> Disks<D> {
+    let (queue_a, queue_b) = core.queue.into_disks();
+    let (store_a, store_b) = core.store.into_disks();
+    Disks {
+        queue_a,
+        queue_b,
+        store_a,
+        store_b,
+    }
+}
+
+// Opens the files, and compares what is found, or why they aren't opened.
 fn found<D: Disk + Drop>(
     notes: &mut Notes,
     disks: Disks<D>,
     wanted: &str,
 ) -> Result<Disks<D>, AllocError> {
-    match open_state(notes.alloc, disks) {
+    match opened(notes.alloc, disks) {
         Ok(core) => {
-            let found = (
-                core.pending.count(),
-                core.discards.count(),
-                core.last,
-                core.tables.count(Entity::Nodes),
-            );
-            let (queue_a, queue_b) = core.queue.into_disks();
-            let (store_a, store_b) = core.store.into_disks();
-            let disks = Disks {
-                queue_a,
-                queue_b,
-                store_a,
-                store_b,
-            };
-            behind(says(notes, found, wanted), disks)
+            let compared = says(notes, counted(&core), wanted);
+            behind(compared, disks_in(core))
         }
         Err((why, disks)) => behind(says(notes, why, wanted), disks),
     }

@@ -1,8 +1,12 @@
 //! Commands that wait: what the list of them answers to the words of a case.
-use crate::notes::{Notes, number_of, parted, parts_of, says};
+use crate::notes::{Notes, gives, number_of, parted, parts_of, says};
 use crate::queue::{Queue, command, group};
 use fleet_rows::Kind;
 use std::alloc::{AllocError, Global};
+
+fn stamp_of(word: &str) -> i64 {
+    word.parse::<i64>().unwrap_or(0)
+}
 
 // Adds a command, by its node if the word is of a kind, its stamp and its size. Its receipt, or none where there is no room.
 fn add(
@@ -18,7 +22,7 @@ fn add(
         Kind::Facts
     };
     let node = (word != "single").then_some(number_of(node) as usize);
-    let group = group(alloc, node, kind, stamp.parse::<i64>().unwrap_or(0))?;
+    let group = group(alloc, node, kind, stamp_of(stamp))?;
     let command = command(alloc, number_of(size) as usize)?;
     queue.add(command, group)
 }
@@ -42,10 +46,7 @@ fn answer(notes: &mut Notes, queue: &mut Queue, item: &str) -> Result<(), AllocE
     let (call, wanted) = parted(item.trim_ascii(), " = ");
     let (word, text) = parted(call, " ");
     match word {
-        "fill" => {
-            let filled = fill(alloc, queue, text.parse::<i64>().unwrap_or(0))?;
-            says(notes, filled, wanted)
-        }
+        "fill" => gives(notes, fill(alloc, queue, stamp_of(text)), wanted),
         "mark" => says(notes, queue.mark(number_of(text)), wanted),
         "unmark" => says(notes, queue.unmark(number_of(text)), wanted),
         "take" => says(notes, queue.take(number_of(text)), wanted),
@@ -54,7 +55,7 @@ fn answer(notes: &mut Notes, queue: &mut Queue, item: &str) -> Result<(), AllocE
         "count" => says(notes, queue.pending.count(), wanted),
         "queued" => says(notes, queue.pending.queued(), wanted),
         "size" => says(notes, queue.pending.size(), wanted),
-        _ => says(notes, add(alloc, queue, word, text)?, wanted),
+        _ => gives(notes, add(alloc, queue, word, text), wanted),
     }
 }
 
