@@ -8,7 +8,7 @@ use fleet_rows::{Entity, Kind};
 use json_tree::Text;
 use std::alloc::{AllocError, Global};
 
-/// Commands of which each has a node of its own: facts of `a`, of `b` with values that are refused, of `c` and of `d`.
+/// Four commands, each of a node of its own: facts of `a`, `b`, `c` and `d`. The values of `b` are refused.
 static FOUR: [&str; 4] = [
     r#"{"certname":"a","values":{"k":1},"producer_timestamp":"2024-05-01T01:00:00Z"}"#,
     r#"{"certname":"b","values":[],"producer_timestamp":"2024-05-01T01:00:00Z"}"#,
@@ -16,8 +16,8 @@ static FOUR: [&str; 4] = [
     r#"{"certname":"d","values":{"k":1},"producer_timestamp":"2024-05-01T01:00:00Z"}"#,
 ];
 
-/// What a core told of the four: which got a receipt, with the bits 1, 2, 4 and 8; how many were said to have ended; how many came in,
-/// were applied and were given up by its count; and which log it is down by. And how many are found applied, given up and waiting.
+/// What a core answered about the four. `taken` has a bit for each receipt (1, 2, 4, 8), `ended` counts the commands that it said had ended.
+/// Then come its own counts, and the log that it is down by. `left` says how many commands are found applied, discarded and pending.
 #[derive(Clone, Copy)]
 pub(crate) struct Told {
     pub(crate) taken: u64,
@@ -29,7 +29,7 @@ pub(crate) struct Told {
     pub(crate) left: [u64; 3],
 }
 
-/// Nothing was told, and nothing found.
+/// Nothing was answered, and nothing found.
 pub(crate) const SILENCE: Told = Told {
     taken: 0,
     ended: 0,
@@ -40,7 +40,7 @@ pub(crate) const SILENCE: Told = Told {
     left: [0; 3],
 };
 
-// What the core answers to facts of this node, with this hour and these values.
+// Submits facts of this node, with this hour and these values.
 fn send_facts<D: Disk + Drop, K: Keeper + Drop>(
     alloc: Global,
     core: &mut Core<D, K>,
@@ -61,7 +61,7 @@ fn is_taken<D: Disk + Drop, K: Keeper + Drop>(
     Ok(matches!(send(alloc, core, payload)?, Submitted::Receipt(_)))
 }
 
-// Whether so many commands come in that are no JSON.
+// Submits so many commands that are no JSON. Whether each gets a receipt.
 fn fill<D: Disk + Drop, K: Keeper + Drop>(
     alloc: Global,
     core: &mut Core<D, K>,
@@ -75,7 +75,7 @@ fn fill<D: Disk + Drop, K: Keeper + Drop>(
     Ok(true)
 }
 
-// Which of the four got a receipt: they come in to the first that gets none, or beyond it.
+// Submits the four, up to the first that gets no receipt, or beyond it. Answers the bits of those that got one.
 fn send_four<D: Disk + Drop, K: Keeper + Drop>(
     alloc: Global,
     core: &mut Core<D, K>,
@@ -94,7 +94,8 @@ fn send_four<D: Disk + Drop, K: Keeper + Drop>(
     Ok(taken)
 }
 
-// Works eight times, to the first that doesn't end a command, or beyond it while commands wait. How many ended, and what came last.
+// Works eight times, up to the first time that ends no command, or beyond it while commands are pending. Answers how many ended, and
+// what came last.
 fn turns<D: Disk + Drop, K: Keeper + Drop>(
     alloc: Global,
     core: &mut Core<D, K>,
@@ -112,7 +113,7 @@ fn turns<D: Disk + Drop, K: Keeper + Drop>(
     Ok((ended, Came::Failed))
 }
 
-// The four come in and end, as far as the disks let them: to the first call that fails, or beyond it.
+// Submits the four and works, as far as the disks allow: up to the first call that fails, or beyond it.
 fn serve<D: Disk + Drop, K: Keeper + Drop>(
     alloc: Global,
     core: &mut Core<D, K>,
@@ -142,7 +143,7 @@ fn counts<D: Disk + Drop, K: Keeper + Drop>(core: &Core<D, K>) -> [u64; 4] {
     [received, applied, superseded, discarded]
 }
 
-// How many facts there are, and how many commands were given up and wait.
+// How many facts there are, and how many commands are discarded and pending.
 fn standing<D: Disk + Drop, K: Keeper + Drop>(core: &Core<D, K>) -> [u64; 3] {
     let (waiting, _bytes) = core.pending();
     let applied = core.tables().count(Entity::Facts) as u64;
@@ -150,7 +151,7 @@ fn standing<D: Disk + Drop, K: Keeper + Drop>(core: &Core<D, K>) -> [u64; 3] {
     [applied, discarded, u64::from(waiting)]
 }
 
-// Whether all outcomes that were told are found, and all commands, with at most one that wasn't told.
+// Whether all outcomes and commands that the core answered are found, with at most one command more.
 fn keeps(told: &Told) -> bool {
     let [applied, discarded, waiting] = told.left;
     let all = applied.saturating_add(discarded).saturating_add(waiting);
@@ -172,7 +173,7 @@ fn bit_of<D: Disk + Drop, K: Keeper + Drop>(
     Ok(if has { bit } else { 0 })
 }
 
-// Which of the four have ended as they must, with their bits.
+// The bits of those of the four that have ended as they must.
 fn ended_bits<D: Disk + Drop, K: Keeper + Drop>(
     alloc: Global,
     core: &Core<D, K>,
@@ -184,7 +185,7 @@ fn ended_bits<D: Disk + Drop, K: Keeper + Drop>(
     Ok(first | refused | third | fourth)
 }
 
-// Whether what waits ends, and each command with these bits has ended as it must.
+// Whether all pending commands end, and each command with these bits has ended as it must.
 fn all_end<D: Disk + Drop, K: Keeper + Drop>(
     alloc: Global,
     core: &mut Core<D, K>,
@@ -234,11 +235,11 @@ fn is_so<D: Disk + Drop, K: Keeper + Drop>(
 
 /// Does what a word of a session says, and compares the answer with the text behind ` = `.
 ///
-/// `send` takes facts in by their node, hour and values, `raw` by their payload, and `fill` so many that are no JSON. `four` takes the four in, `serve`
-/// works too and notes what was told, and so does `firmly`, which ends at the first failure. `work` works so often, and `drain` while commands
-/// end. `late` and `released` work behind a claim that was freed or released. `rests` claims a command, beside which no other can be
-/// claimed, and releases it; `rests-compacted` with a compaction in between. `standing` counts the facts, the commands that were given up,
-/// and those that wait; `keeps` compares them with what was told. `ends` works on and looks for each command that got a receipt,
+/// `send` submits facts by their node, hour and values, `raw` by their payload, and `fill` so many that are no JSON. `four` submits the four.
+/// `serve` works too, and notes what the core answered; so does `firmly`, which ends at the first failure. `work` works so often, and
+/// `drain` while commands end. `late` and `released` settle a job whose claim was freed or released. `rests` claims a command, sees that
+/// no other can be claimed, and releases it; `rests-compacted` compacts in between. `standing` counts the facts, the discarded commands
+/// and the pending ones; `keeps` compares them with what was noted. `ends` works on and looks for each command that got a receipt,
 /// `all-end` for all four.
 pub(crate) fn answer<D: Disk + Drop, K: Keeper + Drop>(
     notes: &mut Notes,

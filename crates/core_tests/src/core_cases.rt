@@ -2,7 +2,7 @@
 use crate::trials::try_all;
 use std::alloc::AllocError;
 
-/// Sessions over laid files, a case behind each empty line.
+/// Sessions over laid files. An empty line parts two cases.
 const CORES: &str = r#"# commands end, and are there when the files are opened again
 
 send a 03 {"k":3} = Receipt(1);send a 01 {"k":1} = Receipt(2);send a 05 {"k":5,"l":5} = Receipt(3);
@@ -24,7 +24,7 @@ serve/compact = Ok/compact = Ok/standing = [3, 1, 0];drain = (0, Done)/compact =
 
 send a 01 {"k":1} = Receipt(1);rests-compacted = true;work 1 = Ended
 
-# the sixteenth failure gives a command up, before and behind a compaction counted alike
+# the sixteenth failure discards a command; failures before a compaction count behind it
 
 stops 2 3 3 1/send a 01 {"k":1} = Receipt(1);work 15 = Failed;work 1 = Ended;work 1 = Done;down = No
 /crash/standing = [0, 1, 0];drain/standing = [0, 1, 0]
@@ -53,12 +53,12 @@ fails 0 1 63 2 = less silent whole queue untold undone/?serve/keeps = true;drain
 fails 1 1 63 2 = whole/?serve/keeps = true;drain/ends = true
 fails 2 1 63 2 = whole store untold/?serve/keeps = true;drain/ends = true
 fails 3 1 63 2 = whole/?serve/keeps = true;drain/ends = true
-# a stop leaves what was told and at most one command more
+# a stop leaves what was answered and at most one command more
 stops 0 0 47 5 = less silent whole queue untold undone/?firmly/crash/keeps = true;drain/ends = true
 stops 1 0 3 5 = less silent whole/?firmly/crash/keeps = true;drain/ends = true
 stops 2 0 47 5 = less silent whole store untold/?firmly/crash/keeps = true;drain/ends = true
 stops 3 0 3 5 = less silent whole/?firmly/crash/keeps = true;drain/ends = true
-# the sixteenth failure of the store gives a command up
+# the sixteenth failure of the store discards a command
 stops 2 3 3 1/send a 01 {"k":1} = Receipt(1);work 1 = Failed;down = No/crash/standing = [0, 0, 1];drain/standing = [1, 0, 0]
 stops 2 3 3 1/send a 01 {"k":1} = Receipt(1);work 15 = Failed;down = No/crash/standing = [0, 0, 1];drain/standing = [1, 0, 0]
 stops 2 3 3 1/send a 01 {"k":1} = Receipt(1);work 15 = Failed;work 1 = Ended;down = No/crash/standing = [0, 1, 0];drain/standing = [0, 1, 0]"#;
@@ -68,7 +68,7 @@ fn faults_and_stops_lose_nothing(rt: HostRuntime) -> Result<(), AllocError> {
     try_all(&rt, rt.alloc(), "core", "\n", FAULTS)
 }
 
-/// Compactions of which calls fail, or a disk stops: of four commands that wait, and of four that have ended.
+/// Compactions in which calls fail or a disk stops, with four pending commands and with four that have ended.
 const COMPACTIONS: &str =
     "# a call fails in an opening, which is tried anew, in the compaction, or behind it: what was there is there
 fails 0 33 36 2/four/compact = Ok/standing = [0, 0, 4];drain/all-end = true

@@ -150,7 +150,7 @@ fn bit_at(fact: bool, bit: u64) -> u64 {
     if fact { bit } else { 0 }
 }
 
-// What the four show between what was told of them and what is left.
+// What a trial shows: what the core answered about the four, beside what is left of them.
 fn shown_by(told: &Told) -> u64 {
     let [applied, _discarded, waiting] = told.left;
     let done = told.applied.saturating_add(told.discarded);

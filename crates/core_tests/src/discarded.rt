@@ -1,4 +1,4 @@
-//! Commands that were given up: their lines, and their order.
+//! Discarded commands: their lines, and their order.
 ghost use Rattle.std.specs.Prelude.{◌≡◌, IfOk};
 ghost use Rattle.stamp_time.specs.Range.{IsStampMoment};
 

@@ -110,8 +110,8 @@ fn digits(records: &StoreRecords) -> u64 {
     digits
 }
 
-// What a keeper told: its records by what was acknowledged last, as digits, how many faults its answers told, and how many it and its
-// disks counted. And what the last opening found: the digits, and whether they stand in the second file.
+// `kept` has the records by the last answer, as digits. `told` counts the faults in the answers, `faults` those that the keeper counted,
+// and `counted` those of its disks. `left` has the digits that the last opening found, `second` says that it found them in the second file.
 #[derive(Clone, Copy)]
 struct Run {
     kept: u64,
@@ -131,7 +131,7 @@ const UNOPENED: Run = Run {
     second: false,
 };
 
-// Counts an answer in: that the sevens were kept, or a change with this number.
+// Notes an answer: about the sevens, or about a change with this number.
 fn count(run: &mut Run, kept: Option<Kept>, number: Option<u64>) {
     match kept {
         Some(Kept::Ok) => {
@@ -267,7 +267,7 @@ fn has_file(
     says(notes, same, "true")
 }
 
-// Whether the old records stand or the new ones, and the faults were told.
+// Whether the old records or the new ones are there, and the answers had the faults.
 fn stands(run: &Run) -> bool {
     let is_there = if run.second {
         run.left == 77
@@ -342,7 +342,7 @@ fn disk_of(alloc: Global, names: &str, fault: Fault, place: u64) -> Result<FuseD
     Ok(fused(disk, fault, place))
 }
 
-// That the new records stand though no answer told of them, and that the keeper went down.
+// A trial shows that new records are there which no answer acknowledged, and that the keeper went down.
 fn shown_by(run: &Run) -> u64 {
     let untold = if run.second && run.kept != 77 { 32 } else { 0 };
     if run.told == 2 { untold | 128 } else { untold }

@@ -1,6 +1,6 @@
-//! Tests of the core and of what it is made of, over disks in memory: the commands that wait (`supersede_core`), the lines of those that
-//! were given up (`retry_discard`), the keeper of the store (`fleet_keeper`), what an opening reads (`core_opening`), and the core itself
-//! (`command_core`). The cases are lines of text, which `trials` reads. There is nothing here but tests.
+//! Tests of the core and of its parts, over disks in memory: pending commands (`supersede_core`), discarded ones (`retry_discard`), the keeper
+//! of the store (`fleet_keeper`), what an opening reads (`core_opening`), and the core itself (`command_core`). The cases are lines of
+//! text, which `trials` reads. There is nothing here but tests.
 #![tactic(auto)]
 
 #[cfg(test)]

@@ -18,7 +18,7 @@ fn opened<D: Disk + Drop>(
     open_state(alloc, disks)
 }
 
-// How many commands wait and were given up, the last receipt, and how many nodes are known.
+// How many commands are pending and discarded, the last receipt, and how many nodes are known.
 fn counted<D: Disk + Drop>(core: &CoreState<D, LogKeeper<D>>) -> (u32, usize, u64, usize) {
     (
         core.pending.count(),

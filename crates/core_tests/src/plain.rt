@@ -1,6 +1,6 @@
-//! What the definitions say of the commands that wait, as a plain and slow program.
+//! What the definitions say of pending commands, as a plain and slow program.
 
-/// A command that waits: its group, by the numbers of a node and a kind, and the producer's timestamp.
+/// A pending command: its group, by the numbers of a node and a kind, and the producer's timestamp.
 #[derive(Clone, Copy)]
 pub(crate) struct Waiting {
     pub receipt: u64,

@@ -18,7 +18,7 @@ pub(crate) struct Queue {
     ghost below: { AreBelow next pending } by { Prim.hlevel props },
 }
 
-/// Whether the command waits and isn't claimed.
+/// Whether the command is pending and not claimed.
 fn is_queued(pending: &Pending, receipt: u64) -> bool
     ensures { result ≡ is_queued receipt pending.now }
 {
@@ -28,7 +28,7 @@ fn is_queued(pending: &Pending, receipt: u64) -> bool
     }
 }
 
-/// Whether the command waits and is claimed.
+/// Whether the command is pending and claimed.
 fn is_claimed(pending: &Pending, receipt: u64) -> bool
     ensures { result ≡ is_claimed receipt pending.now }
 {
@@ -38,7 +38,7 @@ fn is_claimed(pending: &Pending, receipt: u64) -> bool
     }
 }
 
-/// Whether the command waits.
+/// Whether the command is pending.
 fn stands(pending: &Pending, receipt: u64) -> bool
     ensures { result ≡ stands receipt pending.now }
 {
@@ -115,7 +115,7 @@ impl Queue {
         claimed
     }
 
-    /// Whether the command waited, and is taken out.
+    /// Takes a command out. Whether it was pending.
     pub(crate) fn take(&mut self, receipt: u64) -> bool {
         let there = stands(&self.pending, receipt);
         if there {
@@ -125,7 +125,7 @@ impl Queue {
         false
     }
 
-    /// How often the command failed with this failure, or none where it doesn't wait or failed sixteen times.
+    /// Counts a failure. How many the command has then; none if it isn't pending or has sixteen already.
     pub(crate) fn count_failure(&mut self, receipt: u64) -> Option<u32> {
         let attempts = match self.pending.entry(receipt) {
             Some(entry) => entry.attempts,

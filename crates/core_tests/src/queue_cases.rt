@@ -1,4 +1,4 @@
-//! The cases of commands that wait.
+//! The cases of pending commands.
 use crate::trials::try_all;
 use std::alloc::AllocError;
 

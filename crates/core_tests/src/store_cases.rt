@@ -2,7 +2,7 @@
 use crate::trials::try_all;
 use std::alloc::AllocError;
 
-/// The records of a queue and of a store, and what is found: how many commands wait and were given up, the last receipt, and how many
+/// The records of a queue and of a store, and what is found: how many commands are pending and discarded, the last receipt, and how many
 /// nodes are known; or where the damage is.
 const OPENINGS: &str = "# records behind those of new files
 b2 L7E0/(0, 0, 2, 0)
@@ -11,13 +11,13 @@ b2c3c4 L7E0/(2, 0, 4, 0)
 b2c3c4s3 L7E0/(1, 0, 4, 0)
 b2c3c4f3 L7E0/(2, 0, 4, 0)
 b2c3c4r3 L7E0/(1, 1, 4, 0)
-# the sixteenth failure gives a command up
+# the sixteenth failure discards a command
 b2c3c4f3f3f3f3f3f3f3f3f3f3f3f3f3f3f3f3 L7E0/(1, 1, 4, 0)
 b2h1c3 L7E0/(2, 0, 3, 0)
 b2x1c3 L7E0/(1, 1, 3, 0)
 b2c3c4d3 L7E0C3/(1, 0, 4, 1)
 b2c3c4d3 L7E0C3w0/(1, 0, 4, 1)
-# the Done lacks
+# the Done is missing
 b2c3c4 L7E0C3/(1, 0, 4, 1)
 # records as a checkpoint has them, and behind it
 b2h1x1 L7E0/(1, 1, 2, 0)
@@ -31,7 +31,7 @@ b2 L7W0m0M0/(0, 0, 2, 2)
 b2 L7W0m0C3M0/(0, 0, 2, 2)
 b2 L7W0m0R3M0/(0, 0, 2, 2)
 b2 L7E0M0U3/(0, 0, 2, 2)
-# the receipt that the base tells was taken: where it waits, its Done lacks
+# the command of the base's receipt was applied: if it is pending, its Done is missing
 b2c3c4 L7B3/(1, 0, 4, 0)
 b2c3c4d3 L7B3/(1, 0, 4, 0)
 b2c3c4 L7B3m0/(1, 0, 4, 1)
@@ -94,7 +94,7 @@ const KEEPERS: &str = "# a file of a greater generation
 1:S1B2 2:S3C5!0/Damaged { file: B, at: 34 }
 1:S1B2 2:S3B4B4/Damaged { file: B, at: 51 }
 1:S1B2 2:S3B4l0/Damaged { file: B, at: 51 }
-# the first records lack
+# the first records are missing
 1:S1B2 2:S3/Damaged { file: B, at: 34 }
 1:S1B2 2:/Damaged { file: B, at: 16 }
 # the newest open file counts

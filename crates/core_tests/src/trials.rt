@@ -42,7 +42,7 @@ fn trial(notes: &mut Notes, kind: &str, script: &str, fault: Fault) -> Result<u6
 }
 
 /// What trials may show: a command got no receipt, or none did; all four ended; the core is down by its queue or its store; more is
-/// found than was told; a change is there whose end wasn't told; the keeper went down. Where they show none of it, they say `nothing`.
+/// found than was answered; a change is there whose settle had no answer; the keeper went down. `nothing` says that they show none of it.
 static SHOWN: [&str; 8] = [
     " less", " silent", " whole", " queue", " store", " untold", " undone", " down",
 ];

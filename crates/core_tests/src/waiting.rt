@@ -1,4 +1,4 @@
-//! Commands that wait: what the list of them answers to the words of a case.
+//! Pending commands: what the list of them answers to the words of a case.
 use crate::notes::{Notes, gives, number_of, parted, parts_of, says};
 use crate::queue::{Queue, command, group};
 use fleet_rows::Kind;
@@ -59,7 +59,7 @@ fn answer(notes: &mut Notes, queue: &mut Queue, item: &str) -> Result<(), AllocE
     }
 }
 
-/// Plays the words over a list in which nothing waits.
+/// Plays the words over an empty list.
 pub(crate) fn try_queue(notes: &mut Notes, script: &str) -> Result<u64, AllocError> {
     let mut queue = Queue::new(notes.alloc);
     let mut rest = script;

@@ -42,7 +42,7 @@ pub(crate) enum Came {
     Failed,
     /// The command wasn't claimed any more.
     NotClaimed,
-    /// No command waits.
+    /// No command is pending.
     Done,
 }
 
