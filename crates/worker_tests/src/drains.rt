@@ -28,16 +28,24 @@ pub(crate) fn counts(core: &MemoryCore) -> [u64; 4] {
 const FIVE: &str =
     r#" "n0" "production" "k" 14 "n1" "production" "k" 14 "n2" "production" "k" 14 "n3" "production" "k" 14 "n4" "production" "k" 14"#;
 
+fn end_word(done: bool) -> &'static str {
+    if done { "done" } else { "not done" }
+}
+
+// The rows as text, and those of the five nodes as two words.
+fn words_of(rows: &[u8]) -> &str {
+    let rows = str::from_utf8(rows).unwrap_or("no text");
+    if rows == FIVE { " five rows" } else { rows }
+}
+
 // What a drain left: how it ended, how many commands came in and how they ended, and the rows of facts.
 fn outcome_of(alloc: Global, core: MemoryCore, done: bool) -> Result<String, AllocError> {
     let counts = counts(&core);
     let rows = text(alloc, core.tables(), Entity::Facts);
     drop(core);
     let rows = rows?;
-    let end = if done { "done" } else { "not done" };
-    let rows = str::from_utf8(rows.as_slice()).unwrap_or("no text");
-    let rows = if rows == FIVE { " five rows" } else { rows };
-    format!(in alloc; "{end} {counts:?}{rows}")
+    let (end, words) = (end_word(done), words_of(rows.as_slice()));
+    format!(in alloc; "{end} {counts:?}{words}")
 }
 
 // What a drain by so many workers leaves of a core.
@@ -81,9 +89,9 @@ fn drained_case<R: Threads + Wait + Sync>(
     alloc: Global,
     case: &str,
 ) -> Result<String, AllocError> {
-    let (nodes, rest) = parted(case);
-    let (hours, rest) = parted(rest);
-    let (workers, gate) = parted(rest);
+    let (nodes, rest) = parted(case, " ");
+    let (hours, rest) = parted(rest, " ");
+    let (workers, gate) = parted(rest, " ");
     let workers = workers.parse::<u32>().unwrap_or(0);
     if workers < 1 || workers > 64 {
         return Err(AllocError);
@@ -105,11 +113,26 @@ const DRAINS: &str = r#"1 5 8 open = done [5, 1, 4, 0] "n0" "production" "k" 14
 5 5 1 poor = done [25, 5, 20, 0] five rows, 0 met, true
 5 5 8 poor = done [25, 5, 20, 0] five rows, 0 met, true"#;
 
+fn drain_line<R: Abort + Threads + Wait + Sync>(
+    rt: &R,
+    alloc: Global,
+    line: &str,
+) -> Result<(), AllocError> {
+    let (case, wanted) = parted(line, " = ");
+    let said = drained_case(rt, alloc, case)?;
+    assert!(rt; said.as_str() == wanted, "{said} for {wanted}");
+    Ok(())
+}
+
 fn drain_each<R: Abort + Threads + Wait + Sync>(rt: &R, alloc: Global) -> Result<(), AllocError> {
-    for line in DRAINS.split('\n') {
-        let (case, wanted) = line.split_once(" = ").unwrap_or((line, ""));
-        let said = drained_case(rt, alloc, case)?;
-        assert!(rt; said.as_str() == wanted, "{said} for {wanted}");
+    let mut rest = DRAINS;
+    'lines: for _ in 0..DRAINS.len() {
+        let (line, more) = parted(rest, "\n");
+        drain_line(rt, alloc, line)?;
+        if more.is_empty() {
+            return Ok(());
+        }
+        rest = more;
     }
     Ok(())
 }
@@ -120,12 +143,12 @@ fn any_number_of_workers_comes_to_the_same(rt: HostRuntime) -> Result<(), AllocE
 }
 
 // How a drain ends where calls of the store fail, a bit for each: there is no core; the store goes down, and stays so; each failure is
-// mended, and sixteen of them give a command up; or otherwise.
+// repaired, and sixteen of them discard a command; or otherwise.
 const NO_CORE: u64 = 1;
 
 const STAYS_DOWN: u64 = 2;
 
-const ALL_MENDED: u64 = 4;
+const ALL_REPAIRED: u64 = 4;
 
 const OTHERWISE: u64 = 8;
 
@@ -140,11 +163,11 @@ fn down_again<R: Threads + Wait + Sync>(rt: &R, alloc: Global, core: MemoryCore)
     }
 }
 
-fn mended(core: MemoryCore) -> u64 {
+fn repaired(core: MemoryCore) -> u64 {
     let [received, applied, superseded, discarded] = counts(&core);
     drop(core);
     if received == 8 && superseded == 0 && applied.wrapping_add(discarded) == 8 {
-        ALL_MENDED
+        ALL_REPAIRED
     } else {
         OTHERWISE
     }
@@ -154,7 +177,7 @@ fn drained_weakly<R: Threads + Wait + Sync>(rt: &R, alloc: Global, core: MemoryC
     let Drained { core, end } = drain(rt, alloc, core, 8, &OpenGate);
     match end {
         WorkEnd::StoreDown => down_again(rt, alloc, core),
-        WorkEnd::Done => mended(core),
+        WorkEnd::Done => repaired(core),
         _ => {
             drop(core);
             OTHERWISE
@@ -162,14 +185,23 @@ fn drained_weakly<R: Threads + Wait + Sync>(rt: &R, alloc: Global, core: MemoryC
     }
 }
 
-// The ends of drains by eight workers of a core whose store fails at 64 calls, from the first to the 63rd on.
+// The end of a drain by eight workers of a core whose store fails at 64 calls, from this one on.
+fn weak_end<R: Threads + Wait + Sync>(
+    rt: &R,
+    alloc: Global,
+    first: u64,
+) -> Result<u64, AllocError> {
+    match busy_core(alloc, (first, 64), 8, 1)? {
+        Some(core) => Ok(drained_weakly(rt, alloc, core)),
+        None => Ok(NO_CORE),
+    }
+}
+
+// The ends of such drains, where the calls fail from the first to the 63rd on.
 fn weak_ends<R: Threads + Wait + Sync>(rt: &R, alloc: Global) -> Result<u64, AllocError> {
     let mut ends = 0;
-    for first in 1..64 {
-        ends |= match busy_core(alloc, (first, 64), 8, 1)? {
-            Some(core) => drained_weakly(rt, alloc, core),
-            None => NO_CORE,
-        };
+    'calls: for first in 1..64 {
+        ends |= weak_end(rt, alloc, first)?;
     }
     Ok(ends)
 }

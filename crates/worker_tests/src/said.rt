@@ -28,7 +28,7 @@ pub(crate) fn number_of(word: &str) -> u64 {
     word.parse::<u64>().unwrap_or(0)
 }
 
-/// The text before the first blank, and behind it.
-pub(crate) fn parted(text: &str) -> (&str, &str) {
-    text.split_once(' ').unwrap_or((text, ""))
+/// The text before the mark, and behind it.
+pub(crate) fn parted<'a>(text: &'a str, mark: &str) -> (&'a str, &'a str) {
+    text.split_once(mark).unwrap_or((text, ""))
 }
