@@ -1,85 +1,144 @@
-//! Items of spools, and what is printed of them.
-pub(crate) const ONE: &[u8] =
-    b"replace_facts 5 119\n{\"certname\":\"a\",\"environment\":\"production\",\"values\":{\"k\":1},\
-\"producer_timestamp\":\"2024-05-01T10:00:00Z\",\"producer\":\"m\"}\n";
+//! Items of a spool, by their node, their stamp and their values.
+use crate::texts::{add_bytes, add_line, number_of, parted};
+use itoa::Buffer;
+use std::alloc::{AllocError, Global};
 
-pub(crate) const TWO_LATER: &[u8] =
-    b"replace_facts 5 119\n{\"certname\":\"a\",\"environment\":\"production\",\"values\":{\"k\":2},\
-\"producer_timestamp\":\"2024-05-01T11:00:00Z\",\"producer\":\"m\"}\n";
+// The payloads: `@` stands for the node, `%` for the stamp and `$` for the values, or for the whole.
+const FACTS: &str =
+    r#"{"certname":"@","environment":"production","values":$,"producer_timestamp":"%","producer":"m"}"#;
 
-pub(crate) const TWO_AT_ONCE: &[u8] =
-    b"replace_facts 5 119\n{\"certname\":\"a\",\"environment\":\"production\",\"values\":{\"k\":2},\
-\"producer_timestamp\":\"2024-05-01T10:00:00Z\",\"producer\":\"m\"}\n";
+const DEACTIVATION: &str = r#"{"certname":"@","producer_timestamp":"%"}"#;
 
-pub(crate) const ONE_AND_TWO_NANOSECONDS: &[u8] =
-    b"replace_facts 5 129\n{\"certname\":\"a\",\"environment\":\"production\",\"values\":{\"k\":1},\
-\"producer_timestamp\":\"2024-05-01T10:00:00.000000002Z\",\"producer\":\"m\"}\n";
+const EXPIRATION: &str = r#"{"certname":"@","producer_timestamp":"%","expire":$}"#;
 
-pub(crate) const TWO_AND_ONE_NANOSECOND: &[u8] =
-    b"replace_facts 5 134\n{\"certname\":\"a\",\"environment\":\"production\",\"values\":{\"k\":2},\
-\"producer_timestamp\":\"2024-05-01T12:00:00.000000001+02:00\",\"producer\":\"m\"}\n";
+const CATALOG: &str =
+    "{\"certname\":\"@\",\"version\":\"1\",\"environment\":\"production\",\"transaction_uuid\":null,\
+\"catalog_uuid\":null,\"code_id\":null,\"job_id\":null,\"producer_timestamp\":\"%\",\"producer\":\"m\",\"edges\":[],\
+\"resources\":[{\"type\":\"Class\",\"title\":\"Ntp\",\"exported\":false,\"file\":null,\"line\":null,\"tags\":[\"class\"],\
+\"parameters\":{}}]}";
 
-pub(crate) const VALUES_LIST: &[u8] =
-    b"replace_facts 5 114\n{\"certname\":\"a\",\"environment\":\"production\",\"values\":[],\
-\"producer_timestamp\":\"2024-05-01T11:00:00Z\",\"producer\":\"m\"}\n";
+const REPORT: &str =
+    "{\"certname\":\"@\",\"environment\":\"production\",\"puppet_version\":\"8.0.0\",\"report_format\":12,\
+\"configuration_version\":\"1\",\"start_time\":\"%\",\"end_time\":\"%\",\"producer_timestamp\":\"%\",\"producer\":\"m\",\
+\"noop\":false,\"status\":\"changed\",\"transaction_uuid\":null,\"resources\":[],\"logs\":[],\"metrics\":[]}";
 
-pub(crate) const NO_VALUES: &[u8] =
-    b"replace_facts 5 114\n{\"certname\":\"a\",\"environment\":\"production\",\"values\":{},\
-\"producer_timestamp\":\"2024-05-01T11:00:00Z\",\"producer\":\"m\"}\n";
+// The kind and the version of an item, and its payload; none for any other word.
+fn form_of(word: &str) -> (&'static str, &'static str) {
+    match word {
+        "facts" => ("replace_facts 5", FACTS),
+        "older" => ("replace_facts 4", FACTS),
+        "catalog" => ("replace_catalog 9", CATALOG),
+        "report" => ("store_report 8", REPORT),
+        "short-report" => ("store_report 8", FACTS),
+        "deactivate" => ("deactivate_node 3", DEACTIVATION),
+        "expiration" => ("configure_expiration 1", EXPIRATION),
+        "raw" => ("replace_facts 5", "$"),
+        "raw-catalog" => ("replace_catalog 9", "$"),
+        "raw-report" => ("store_report 8", "$"),
+        _ => ("", ""),
+    }
+}
 
-pub(crate) const VERSION_4: &[u8] =
-    b"replace_facts 4 119\n{\"certname\":\"a\",\"environment\":\"production\",\"values\":{\"k\":1},\
-\"producer_timestamp\":\"2024-05-01T10:00:00Z\",\"producer\":\"m\"}\n";
+// Appends the form with these texts in the places of `@`, `%` and `$`.
+fn fill(
+    text: &mut String,
+    form: &str,
+    certname: &str,
+    stamp: &str,
+    values: &str,
+) -> Result<(), AllocError> {
+    for letter in form.chars() {
+        match letter {
+            '@' => text.push_str(certname)?,
+            '%' => text.push_str(stamp)?,
+            '$' => text.push_str(values)?,
+            _ => text.push(letter)?,
+        }
+    }
+    Ok(())
+}
 
-pub(crate) const UPPER_CASE: &[u8] =
-    b"replace_facts 5 119\n{\"certname\":\"Z\",\"environment\":\"production\",\"values\":{\"k\":1},\
-\"producer_timestamp\":\"2024-05-01T10:00:00Z\",\"producer\":\"m\"}\n";
+// Appends an item with its length.
+fn add_payload(spool: &mut Vec<u8>, head: &str, payload: &str) -> Result<(), AllocError> {
+    spool.extend_from_slice(head.as_bytes())?;
+    spool.push(b' ')?;
+    add_line(spool, Buffer::new().format(payload.len()))?;
+    add_line(spool, payload)
+}
 
-pub(crate) const TWO_FACTS: &[u8] =
-    b"replace_facts 5 148\n{\"certname\":\"a\",\"environment\":\"production\",\"values\":{\"n\":[1.50,{\"b\":null}],\"k\":\"\\u0041\"},\
-\"producer_timestamp\":\"2024-05-01T12:00:00Z\",\"producer\":\"m\"}\n";
+/// A spool that a script writes.
+#[derive(Drop)]
+pub(crate) struct Spool {
+    pub(crate) bytes: Vec<u8>,
+    // The payload that was made last.
+    payload: String,
+    middle: String,
+}
 
-pub(crate) const REPORT: &[u8] =
-    b"store_report 8 114\n{\"certname\":\"a\",\"environment\":\"production\",\"values\":{},\
-\"producer_timestamp\":\"2024-05-01T11:00:00Z\",\"producer\":\"m\"}\n";
+impl Spool {
+    pub(crate) fn new(alloc: Global) -> Spool {
+        Spool {
+            bytes: Vec::new(alloc),
+            payload: String::new(alloc),
+            middle: String::new(alloc),
+        }
+    }
 
-pub(crate) const MAY_NOT_EXPIRE: &[u8] =
-    b"configure_expiration 1 85\n{\"certname\":\"a\",\"producer_timestamp\":\"2024-05-01T10:00:00Z\",\"expire\":{\"facts\":false}}\n";
+    // Appends an item, by its node, its stamp and its values, or by its whole payload. Tells whether the word is that of an item.
+    fn add_item(&mut self, word: &str, text: &str) -> Result<bool, AllocError> {
+        let (head, form) = form_of(word);
+        let (certname, rest) = parted(text);
+        let (stamp, values) = parted(rest);
+        let values = if form == "$" { text } else { values };
+        self.payload.clear();
+        fill(&mut self.payload, form, certname, stamp, values)?;
+        if !head.is_empty() {
+            add_payload(&mut self.bytes, head, self.payload.as_str())?;
+        }
+        Ok(!head.is_empty())
+    }
 
-pub(crate) const DEACTIVATION: &[u8] =
-    b"deactivate_node 3 60\n{\"certname\":\"a\",\"producer_timestamp\":\"2024-05-01T10:00:00Z\"}\n";
+    // Appends an item of each of so many nodes. Its payload has the node's number in the place of `@`, and the middle in that of `$`.
+    fn add_items(&mut self, count: u64, text: &str) -> Result<(), AllocError> {
+        let (word, form) = parted(text);
+        let (head, _) = form_of(word);
+        for number in 0..count {
+            self.payload.clear();
+            let (payload, middle) = (&mut self.payload, self.middle.as_str());
+            fill(payload, form, Buffer::new().format(number), "%", middle)?;
+            add_payload(&mut self.bytes, head, self.payload.as_str())?;
+        }
+        Ok(())
+    }
 
-pub(crate) const OLDER_FACTS: &[u8] =
-    b"replace_facts 5 119\n{\"certname\":\"a\",\"environment\":\"production\",\"values\":{\"k\":2},\
-\"producer_timestamp\":\"2024-05-01T09:00:00Z\",\"producer\":\"m\"}\n";
+    // Appends the form so many times to the middle, with the number in the place of `@`.
+    fn add_middle(&mut self, count: u64, form: &str) -> Result<(), AllocError> {
+        for number in 0..count {
+            fill(
+                &mut self.middle,
+                form,
+                Buffer::new().format(number),
+                "%",
+                "$",
+            )?;
+        }
+        Ok(())
+    }
 
-pub(crate) const NOTHING: &[u8] = b"[]\n";
-
-pub(crate) const ONE_ROW: &[u8] =
-    b"[{\"certname\":\"a\",\"environment\":\"production\",\"name\":\"k\",\"value\":1}]\n";
-
-pub(crate) const TWO_ROW: &[u8] =
-    b"[{\"certname\":\"a\",\"environment\":\"production\",\"name\":\"k\",\"value\":2}]\n";
-
-pub(crate) const UPPER_CASE_ROWS: &[u8] =
-    b"[{\"certname\":\"Z\",\"environment\":\"production\",\"name\":\"k\",\"value\":1},\
-{\"certname\":\"a\",\"environment\":\"production\",\"name\":\"k\",\"value\":1}]\n";
-
-pub(crate) const TWO_FACTS_ROWS: &[u8] =
-    b"[{\"certname\":\"a\",\"environment\":\"production\",\"name\":\"k\",\"value\":\"A\"},\
-{\"certname\":\"a\",\"environment\":\"production\",\"name\":\"n\",\"value\":[1.50,{\"b\":null}]}]\n";
-
-// The lifetime of a node whose facts are of 2024-05-01T10:00:00Z, and a nanosecond more.
-pub(crate) const AT_ITS_LIFETIME: &[u8] = b"sweep expire 2024-05-08T10:00:00Z\n";
-
-pub(crate) const PAST_ITS_LIFETIME: &[u8] = b"sweep expire 2024-05-08T10:00:00.000000001Z\n";
-
-// A payload of 128 levels.
-pub(crate) const DEEP: &[u8] =
-    b"replace_facts 5 128\n[[[[[[[[[[[[[[[[[[[[[[[[[[[[[[[[[[[[[[[[[[[[[[[[[[[[[[[[[[[[[[[[[[[[[[[[[[[[[[[[[[[[[[[[[[[[[[[[[[[[[[[\
-[[[[[[[[[[[[[[[[[[[[[[[[[\n";
-
-// 201 letters and a line feed: no first line is so long.
-pub(crate) const LETTERS: &[u8] =
-    b"aaaaaaaaaaaaaaaaaaaaaaaaaaaaaaaaaaaaaaaaaaaaaaaaaaaaaaaaaaaaaaaaaaaaaaaaaaaaaaaaaaaaaaaaaaaaaaaaaaaaaaaaaaaaaaaaaaaaaaaaaaaa\
-aaaaaaaaaaaaaaaaaaaaaaaaaaaaaaaaaaaaaaaaaaaaaaaaaaaaaaaaaaaaaaaaaaaaaaaaaaaaa\n";
+    /// Does what a line says of the spool, and tells whether it says so.
+    pub(crate) fn step(&mut self, word: &str, text: &str) -> Result<bool, AllocError> {
+        let (count, form) = parted(text);
+        match word {
+            "bytes" => add_bytes(&mut self.bytes, text)?,
+            "sweep" => {
+                self.bytes.extend_from_slice(b"sweep ")?;
+                add_line(&mut self.bytes, text)?;
+            }
+            "keep" => self.bytes.truncate(number_of(text) as usize),
+            "middle" => self.add_middle(number_of(count), form)?,
+            "nodes" => self.add_items(number_of(count), form)?,
+            _ => return self.add_item(word, text),
+        }
+        Ok(true)
+    }
+}

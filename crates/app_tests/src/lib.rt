@@ -1,16 +1,49 @@
-//! Tests of `fleet_app`: `show`, queries, how many workers a run has, and the ends of the program over streams and disks in memory.
-//! There is nothing here but tests.
+//! Tests of whole commands over streams, disks and a front in memory. There is nothing here but tests.
+//!
+//! Cases are lines of scripts, which [`rounds::play`] reads; `play.rt` says what each word does.
 #![tactic(auto)]
 
 #[cfg(test)]
+mod disks;
+#[cfg(test)]
 mod ends;
+#[cfg(test)]
+mod faults;
+#[cfg(test)]
+mod files;
+#[cfg(test)]
+mod fleets;
+#[cfg(test)]
+mod gate;
 #[cfg(test)]
 mod items;
 #[cfg(test)]
-mod program;
+mod large;
 #[cfg(test)]
-mod query;
+mod logs;
 #[cfg(test)]
-mod show;
+mod play;
+#[cfg(test)]
+mod queries;
+#[cfg(test)]
+mod rounds;
+#[cfg(test)]
+mod served;
+#[cfg(test)]
+mod settings;
+#[cfg(test)]
+mod shown;
+#[cfg(test)]
+mod source;
+#[cfg(test)]
+mod statuses;
+#[cfg(test)]
+mod stops;
+#[cfg(test)]
+mod texts;
+#[cfg(test)]
+mod told;
+#[cfg(test)]
+mod words;
 #[cfg(test)]
 mod workers;
