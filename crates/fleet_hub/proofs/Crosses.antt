@@ -41,8 +41,8 @@ use Rattle.core_drain.specs.core_state.contracts.state.CoreState as CoreState
 use Rattle.core_drain.specs.command_core.contracts.calls.Core as Core
 use Rattle.core_drain.specs.supersede_core.contracts.pending.Pending as Pending
 use Rattle.core_drain.specs.core_state.contracts.found.Found as Found
+use Rattle.core_drain.specs.core_state.contracts.events.Events as Events
 use Rattle.core_drain.proofs.of_retry_discard.discards.Discards.TheSendSync as discards
-use Rattle.core_drain.proofs.of_core_state.events.Events.TheSendSync as events
 use Rattle.core_drain.proofs.of_queue_log.queue.QueueLog.TheSendSync as queue
 
 -- what a core is made of
@@ -88,10 +88,10 @@ module _ (items : IsSend (Items.the_field).row) (members : IsSend (Members.the_f
   tables : IsSend (Tables.the_field).row
   tables = search (parts, state) depth 20
 
-  module _ (pending : IsSend (Pending.the_field).row) (found : IsSend (Found.the_field).row) (D K P : RattleType) (d : IsSend D) (k : IsSend K) (p : IsSend P) (disks : disk.Ghosts D.Denot)
+  module _ (pending : IsSend (Pending.the_field).row) (found : IsSend (Found.the_field).row) (events : IsSend (Events.the_field).row) (D K P : RattleType) (d : IsSend D) (k : IsSend K) (p : IsSend P) (disks : disk.Ghosts D.Denot)
       (keepers : keeper.Ghosts K.Denot) (purposes : purpose.Ghosts P.Denot) where
     core_state : IsSend (CoreState.the_field D K).row
-    core_state = search (parts, queue.the_field_send, tables, pending, discards.the_send, events.the_send, found, d, k) depth 20
+    core_state = search (parts, queue.the_field_send, tables, pending, discards.the_send, events, found, d, k) depth 20
 
     core : IsSend (Core.the_field D K disks keepers).row
     core = search (parts, core_state) depth 20
