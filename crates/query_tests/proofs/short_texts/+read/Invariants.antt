@@ -1,4 +1,4 @@
 use Rattle.query_tests.proofs.short_texts.+read.Given as goal
 
-abbrev pub decreases : goal.decreases
-decreases l = l.depth
+abbrev pub decreases-read : goal.decreases-read
+decreases-read l = l.depth
