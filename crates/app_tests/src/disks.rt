@@ -1,5 +1,5 @@
 //! The four files as bytes, and disks in memory that hold them.
-use crate::settings::Faults;
+use crate::settings::Given;
 use crate::texts::{add_bytes, number_of, parted};
 use fleet_ports::{Disk, Disks};
 use json_tree::Bytes;
@@ -78,26 +78,32 @@ fn copy_of(alloc: Global, bytes: &[u8]) -> Bytes {
     }
 }
 
-// A disk that holds the file. It has those faults where they are meant for it, or for each disk.
-fn disk_of(alloc: Global, file: &[u8], place: u64, faults: Faults) -> FuseDisk {
-    let is_meant = faults.disk == place || faults.disk == u64::MAX;
-    let (count, stop) = if is_meant {
-        (faults.count, faults.stop)
-    } else {
-        (0, u64::MAX)
-    };
+// A disk that holds the file. It has the given faults where they are meant for it, or for each disk.
+fn disk_of(alloc: Global, file: &[u8], place: u64, given: &Given) -> FuseDisk {
+    let meant = given.number(" disk=", u64::MAX);
     let bytes = copy_of(alloc, file);
-    let fails = numbers(alloc, faults.first, count);
-    FuseDisk::new(MemoryDisk::new(alloc, bytes, fails), stop)
+    if meant == place || meant == u64::MAX {
+        let fails = numbers(
+            alloc,
+            given.number(" first=", 0),
+            given.number(" count=", 0),
+        );
+        FuseDisk::new(
+            MemoryDisk::new(alloc, bytes, fails),
+            given.number(" stop=", u64::MAX),
+        )
+    } else {
+        FuseDisk::new(MemoryDisk::new(alloc, bytes, Numbers::new(alloc)), u64::MAX)
+    }
 }
 
 // Disks that hold the files.
-fn disks_of(alloc: Global, files: &Files, faults: Faults) -> Disks<FuseDisk> {
+fn disks_of(alloc: Global, files: &Files, given: &Given) -> Disks<FuseDisk> {
     Disks {
-        queue_a: disk_of(alloc, files.queue_a.as_slice(), 0, faults),
-        queue_b: disk_of(alloc, files.queue_b.as_slice(), 1, faults),
-        store_a: disk_of(alloc, files.store_a.as_slice(), 2, faults),
-        store_b: disk_of(alloc, files.store_b.as_slice(), 3, faults),
+        queue_a: disk_of(alloc, files.queue_a.as_slice(), 0, given),
+        queue_b: disk_of(alloc, files.queue_b.as_slice(), 1, given),
+        store_a: disk_of(alloc, files.store_a.as_slice(), 2, given),
+        store_b: disk_of(alloc, files.store_b.as_slice(), 3, given),
     }
 }
 
@@ -166,10 +172,10 @@ impl Stored {
     }
 
     /// The disks as the last command left them, or those that hold the files.
-    pub(crate) fn take_disks(&mut self, alloc: Global, faults: Faults) -> Disks<FuseDisk> {
+    pub(crate) fn take_disks(&mut self, alloc: Global, given: &Given) -> Disks<FuseDisk> {
         match self.disks.take() {
             Some(disks) => disks,
-            None => disks_of(alloc, &self.files, faults),
+            None => disks_of(alloc, &self.files, given),
         }
     }
 

@@ -195,9 +195,9 @@ told [{"value":3}]
 files a spool with sweeps does the same
 facts a 2024-05-01T10:00:00Z {"k":1}
 deactivate a 2024-05-01T10:00:00Z
-sweep purge 2024-05-15T10:00:00Z
+bytes sweep purge 2024-05-15T10:00:00Z\n
 facts b 2024-05-01T10:00:00Z {"k":2}
-sweep purge 2024-05-15T10:00:00.000000001Z
+bytes sweep purge 2024-05-15T10:00:00.000000001Z\n
 facts a 2024-04-01T00:00:00Z {"k":3}
 do run 1 2024-05-16T00:00:00Z
 printed received 4
@@ -406,7 +406,7 @@ printed applied 1
 printed superseded 0
 printed discarded 0
 end 3 spool bad at 140
-sweep expire,purge 2024-05-01T12:00:00Z
+bytes sweep expire,purge 2024-05-01T12:00:00Z\n
 facts a 2024-05-01T10:00:00Z {"k":1}
 do run 1 2024-05-02T00:00:00Z
 printed received 1

@@ -22,21 +22,28 @@ const REPORT: &str =
 \"configuration_version\":\"1\",\"start_time\":\"%\",\"end_time\":\"%\",\"producer_timestamp\":\"%\",\"producer\":\"m\",\
 \"noop\":false,\"status\":\"changed\",\"transaction_uuid\":null,\"resources\":[],\"logs\":[],\"metrics\":[]}";
 
-// The kind and the version of an item, and its payload; none for any other word.
+/// The words for items, the kind and the version of each, and its payload.
+static FORMS: [(&str, &str, &str); 10] = [
+    ("facts", "replace_facts 5", FACTS),
+    ("older", "replace_facts 4", FACTS),
+    ("catalog", "replace_catalog 9", CATALOG),
+    ("report", "store_report 8", REPORT),
+    ("short-report", "store_report 8", FACTS),
+    ("deactivate", "deactivate_node 3", DEACTIVATION),
+    ("expiration", "configure_expiration 1", EXPIRATION),
+    ("raw", "replace_facts 5", "$"),
+    ("raw-catalog", "replace_catalog 9", "$"),
+    ("raw-report", "store_report 8", "$"),
+];
+
+// The kind and the version of an item, and its payload; no texts for any other word.
 fn form_of(word: &str) -> (&'static str, &'static str) {
-    match word {
-        "facts" => ("replace_facts 5", FACTS),
-        "older" => ("replace_facts 4", FACTS),
-        "catalog" => ("replace_catalog 9", CATALOG),
-        "report" => ("store_report 8", REPORT),
-        "short-report" => ("store_report 8", FACTS),
-        "deactivate" => ("deactivate_node 3", DEACTIVATION),
-        "expiration" => ("configure_expiration 1", EXPIRATION),
-        "raw" => ("replace_facts 5", "$"),
-        "raw-catalog" => ("replace_catalog 9", "$"),
-        "raw-report" => ("store_report 8", "$"),
-        _ => ("", ""),
+    for (name, head, form) in FORMS.iter() {
+        if *name == word {
+            return (head, form);
+        }
     }
+    ("", "")
 }
 
 // Appends the form with these texts in the places of `@`, `%` and `$`.
@@ -130,10 +137,6 @@ impl Spool {
         let (count, form) = parted(text);
         match word {
             "bytes" => add_bytes(&mut self.bytes, text)?,
-            "sweep" => {
-                self.bytes.extend_from_slice(b"sweep ")?;
-                add_line(&mut self.bytes, text)?;
-            }
             "keep" => self.bytes.truncate(number_of(text) as usize),
             "middle" => self.add_middle(number_of(count), form)?,
             "nodes" => self.add_items(number_of(count), form)?,

@@ -9,7 +9,7 @@
 //! | `with A=B ..` | sets numbers of the next command, below |
 //! | `crash A` | puts in the place of the files what a crash leaves of them by the choice A; choice 0 leaves what a read gives |
 //! | `facts A B TEXT` and other words of `items.rt` | appends an item to the spool of the next command |
-//! | `sweep TEXT`, `bytes TEXT`, `keep A` | appends a sweep, or bytes, to it, or keeps its first A bytes |
+//! | `bytes TEXT`, `keep A` | appends bytes to it, or keeps its first A bytes |
 //! | `piped` | appends to it what the last command printed |
 //! | `middle A TEXT`, `nodes A B TEXT` | makes a large part of payloads, and appends the items B of A nodes |
 //! | `link TEXT` | adds a link on which these bytes come |
@@ -47,6 +47,9 @@ use std::process::ExitCode;
 use std::sync::Wait;
 use std::thread::Threads;
 
+/// The words of lines that do nothing.
+const QUIET: [&str; 4] = ["", "each", "outcome", "case"];
+
 /// How far a script is.
 #[derive(Drop)]
 pub(crate) struct Play {
@@ -70,11 +73,8 @@ impl Play {
         alloc: Global,
         words: &'a [Text],
     ) -> Result<(&'a [Text], Disks<FuseDisk>), StartFault> {
-        match self.given.number("start", 0) {
-            0 => {
-                let faults = self.given.faults();
-                Ok((words, self.stored.take_disks(alloc, faults)))
-            }
+        match self.given.number(" start=", 0) {
+            0 => Ok((words, self.stored.take_disks(alloc, &self.given))),
             1 => Err(StartFault::NotUtf8),
             2 => Err(StartFault::Memory),
             3 => Err(StartFault::QueueFile),
@@ -91,8 +91,8 @@ impl Play {
     ) -> Result<(), AllocError> {
         let start = self.start(alloc, words);
         let mut spool = self.given.take_spool(alloc);
-        let mut out = self.given.sink(alloc, "out");
-        let mut errors = self.given.sink(alloc, "errors");
+        let mut out = self.given.sink(alloc, " out=");
+        let mut errors = self.given.sink(alloc, " errors=");
         let mut front = self.given.take_front(alloc);
         let mut patterns = RegexPatterns::new(alloc);
         let Exit { code, disks } = run_program(
@@ -123,10 +123,9 @@ impl Play {
         alloc: Global,
         words: &[Text],
     ) -> Result<(), AllocError> {
-        let faults = self.given.faults();
-        let disks = self.stored.take_disks(alloc, faults);
+        let disks = self.stored.take_disks(alloc, &self.given);
         let mut spool = self.given.take_spool(alloc);
-        let mut out = self.given.sink(alloc, "out");
+        let mut out = self.given.sink(alloc, " out=");
         let mut front = self.given.take_front(alloc);
         let mut patterns = RegexPatterns::new(alloc);
         let gate = self.given.gate();
@@ -161,7 +160,7 @@ impl Play {
         text: &str,
     ) -> Result<Option<bool>, AllocError> {
         let words = match word {
-            "ask" => query_of(alloc, text, self.given.number("wide", 0))?,
+            "ask" => query_of(alloc, text, self.given.number(" wide=", 0))?,
             "do" | "try" | "usage" | "gate" => words_of(alloc, text)?,
             _ => return Ok(None),
         };
@@ -180,6 +179,11 @@ impl Play {
 
     // Does what a line says that is no command, and tells whether it is as the line says.
     fn note(&mut self, alloc: Global, word: &str, text: &str) -> Result<bool, AllocError> {
+        if word == "piped" {
+            let spool = &mut self.given.spool.bytes;
+            spool.extend_from_slice(self.told.printed.as_slice())?;
+            return Ok(true);
+        }
         let has_failed = self.stored.have_failed();
         if let Some(is_so) = self.told.step(has_failed, word, text)? {
             return Ok(is_so);
@@ -198,17 +202,12 @@ impl Play {
         line: &str,
     ) -> Result<bool, AllocError> {
         let (word, text) = parted(line);
-        match word {
-            "" | "each" | "outcome" | "case" => Ok(true),
-            "piped" => {
-                let spool = &mut self.given.spool.bytes;
-                spool.extend_from_slice(self.told.printed.as_slice())?;
-                Ok(true)
-            }
-            _ => match self.command(rt, alloc, word, text)? {
-                Some(is_so) => Ok(is_so),
-                None => self.note(alloc, word, text),
-            },
+        if QUIET.contains(&word) {
+            return Ok(true);
+        }
+        match self.command(rt, alloc, word, text)? {
+            Some(is_so) => Ok(is_so),
+            None => self.note(alloc, word, text),
         }
     }
 

@@ -3,22 +3,13 @@ use crate::disks::numbers;
 use crate::gate::FullGate;
 use crate::items::Spool;
 use crate::source::Pieces;
-use crate::texts::{bytes_of, number_of};
+use crate::texts::{bytes_of, number_of, parted};
 use front_memory::MemoryFront;
 use json_tree::Bytes;
 use port_memory::MemorySink;
 use std::alloc::{AllocError, Global};
 use std::collections::VecDeque;
 use std::mem;
-
-/// Which disk has faults, at which calls from which on it fails, and after how many it stops.
-#[derive(Clone, Copy)]
-pub(crate) struct Faults {
-    pub(crate) disk: u64,
-    pub(crate) first: u64,
-    pub(crate) count: u64,
-    pub(crate) stop: u64,
-}
 
 #[derive(Drop)]
 pub(crate) struct Given {
@@ -37,24 +28,11 @@ impl Given {
         }
     }
 
-    /// The number that `with` gave this name, or the other one.
+    /// The number that `with` gave this name, or the other one. A name has a blank in front and `=` behind.
     pub(crate) fn number(&self, name: &str, other: u64) -> u64 {
-        let mut number = other;
-        for part in self.settings.as_str().split(' ') {
-            let (key, word) = part.split_once('=').unwrap_or((part, ""));
-            if key == name {
-                number = number_of(word);
-            }
-        }
-        number
-    }
-
-    pub(crate) fn faults(&self) -> Faults {
-        Faults {
-            disk: self.number("disk", u64::MAX),
-            first: self.number("first", 0),
-            count: self.number("count", 0),
-            stop: self.number("stop", u64::MAX),
+        match self.settings.as_str().split_once(name) {
+            Some((_, rest)) => number_of(parted(rest).0),
+            None => other,
         }
     }
 
@@ -62,8 +40,8 @@ impl Given {
         Pieces {
             bytes: mem::replace(&mut self.spool.bytes, Vec::new(alloc)),
             at: 0,
-            piece: self.number("piece", u64::MAX) as usize,
-            fails: self.number("spool", 0),
+            piece: self.number(" piece=", u64::MAX) as usize,
+            fails: self.number(" spool=", 0),
             calls: 0,
             faults: 0,
         }
@@ -76,11 +54,11 @@ impl Given {
 
     pub(crate) fn take_front(&mut self, alloc: Global) -> MemoryFront {
         let links = mem::replace(&mut self.links, VecDeque::new(alloc));
-        MemoryFront::new(alloc, links, numbers(alloc, self.number("front", 0), 1))
+        MemoryFront::new(alloc, links, numbers(alloc, self.number(" front=", 0), 1))
     }
 
     pub(crate) fn gate(&self) -> FullGate {
-        FullGate::new(self.number("wanted", 0), self.number("turns", 0))
+        FullGate::new(self.number(" wanted=", 0), self.number(" turns=", 0))
     }
 
     /// Leaves no numbers and no spool.

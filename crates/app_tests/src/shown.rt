@@ -92,7 +92,7 @@ told [{"certname":"a","environment":"production","name":"k","value":1}]
 case purged no earlier than its lifetime
 facts a 2024-05-01T10:00:00Z {"k":1}
 deactivate a 2024-05-01T10:00:00Z
-sweep purge 2024-05-15T10:00:00Z
+bytes sweep purge 2024-05-15T10:00:00Z\n
 facts a 2024-05-01T09:00:00Z {"k":2}
 do show
 told []
@@ -100,25 +100,25 @@ told []
 case a new life behind a purge
 facts a 2024-05-01T10:00:00Z {"k":1}
 deactivate a 2024-05-01T10:00:00Z
-sweep purge 2024-05-15T10:00:00.000000001Z
+bytes sweep purge 2024-05-15T10:00:00.000000001Z\n
 facts a 2024-05-01T09:00:00Z {"k":2}
 do show
 told [{"certname":"a","environment":"production","name":"k","value":2}]
 
 case as old as its lifetime
 facts a 2024-05-01T10:00:00Z {"k":1}
-sweep expire 2024-05-08T10:00:00Z
+bytes sweep expire 2024-05-08T10:00:00Z\n
 do show
 told [{"certname":"a","environment":"production","name":"k","value":1}]
 
 case a nanosecond older
 facts a 2024-05-01T10:00:00Z {"k":1}
-sweep expire 2024-05-08T10:00:00.000000001Z
+bytes sweep expire 2024-05-08T10:00:00.000000001Z\n
 do show
 told []
 
 case a sweep in front
-sweep expire 2024-05-08T10:00:00.000000001Z
+bytes sweep expire 2024-05-08T10:00:00.000000001Z\n
 facts a 2024-05-01T10:00:00Z {"k":1}
 do show
 told []
@@ -126,13 +126,13 @@ told []
 case a node that may not expire
 facts a 2024-05-01T10:00:00Z {"k":1}
 expiration a 2024-05-01T10:00:00Z {"facts":false}
-sweep expire 2024-05-08T10:00:00.000000001Z
+bytes sweep expire 2024-05-08T10:00:00.000000001Z\n
 do show
 told [{"certname":"a","environment":"production","name":"k","value":1}]
 
 case a sweep of reports
 facts a 2024-05-01T10:00:00Z {"k":1}
-sweep reports 2025-05-08T10:00:00Z
+bytes sweep reports 2025-05-08T10:00:00Z\n
 do show
 told [{"certname":"a","environment":"production","name":"k","value":1}]
 
@@ -155,7 +155,7 @@ end 3 spool bad at 140
 
 case a third item behind a sweep
 facts a 2024-05-01T10:00:00Z {"k":1}
-sweep expire 2024-05-08T10:00:00Z
+bytes sweep expire 2024-05-08T10:00:00Z\n
 bytes \n
 do show
 end 3 spool bad at 174
@@ -192,14 +192,14 @@ do show
 end 3 spool bad at 0
 
 case kinds of a sweep in another order
-sweep purge,expire 2024-05-08T10:00:00Z
+bytes sweep purge,expire 2024-05-08T10:00:00Z\n
 do show
 end 3 spool bad at 0
 
 case a sweep without a moment
 facts a 2024-05-01T10:00:00Z {"k":1}
 facts a 2024-05-01T10:00:00Z {"k":1}
-sweep expire 2024-05-08
+bytes sweep expire 2024-05-08\n
 do show
 end 3 spool bad at 280
 

@@ -11,26 +11,26 @@ pub(crate) fn number_of(word: &str) -> u64 {
     word.parse::<u64>().unwrap_or(u64::MAX)
 }
 
-fn digit(letter: Option<char>) -> u8 {
-    let digit = letter.and_then(|c| c.to_digit(16)).unwrap_or(0);
-    u8::try_from(digit).unwrap_or(0)
+fn digit(letter: u8) -> u8 {
+    match letter {
+        b'0'..=b'9' => letter.wrapping_sub(b'0'),
+        _ => letter.wrapping_sub(b'a').wrapping_add(10),
+    }
 }
 
-// Appends the byte that follows a backslash, and then the rest of the text.
-fn add_escaped(bytes: &mut Vec<u8>, text: &str) -> Result<(), AllocError> {
-    let mut letters = text.chars();
-    let byte = match letters.next() {
-        Some('n') => b'\n',
-        Some('r') => b'\r',
-        Some('t') => b'\t',
-        Some('x') => {
-            let high = digit(letters.next());
-            high.wrapping_mul(16).wrapping_add(digit(letters.next()))
+// The byte that stands behind a backslash, and what stands behind that.
+fn escaped(text: &[u8]) -> (u8, &[u8]) {
+    match text {
+        [b'n', rest @ ..] => (b'\n', rest),
+        [b'r', rest @ ..] => (b'\r', rest),
+        [b't', rest @ ..] => (b'\t', rest),
+        [b'x', high, low, rest @ ..] => {
+            let byte = digit(*high).wrapping_mul(16).wrapping_add(digit(*low));
+            (byte, rest)
         }
-        _ => 0,
-    };
-    bytes.push(byte)?;
-    bytes.extend_from_slice(letters.as_str().as_bytes())
+        [_, rest @ ..] => (0, rest),
+        [] => (0, text),
+    }
 }
 
 /// Appends the bytes of the text, in which `\n`, `\r`, `\t`, `\0` and `\x` with two digits each stand for a byte.
@@ -39,7 +39,9 @@ pub(crate) fn add_bytes(bytes: &mut Vec<u8>, text: &str) -> Result<(), AllocErro
         if place == 0 {
             bytes.extend_from_slice(part.as_bytes())?;
         } else {
-            add_escaped(bytes, part)?;
+            let (byte, rest) = escaped(part.as_bytes());
+            bytes.push(byte)?;
+            bytes.extend_from_slice(rest)?;
         }
     }
     Ok(())

@@ -115,9 +115,11 @@ impl Told {
             .push_str(if has_failed { "fault " } else { "calm " })?;
         self.log.push_str(self.end.as_str())?;
         let text = str::from_utf8(self.printed.as_slice()).unwrap_or("no text");
-        for line in text.split_terminator('\n') {
-            self.log.push(' ')?;
-            self.log.push_str(line)?;
+        for line in text.split('\n') {
+            if !line.is_empty() {
+                self.log.push(' ')?;
+                self.log.push_str(line)?;
+            }
         }
         Ok(())
     }

@@ -56,7 +56,7 @@ told [{"producer_timestamp":"2024-05-01T10:00:00.000Z"},{"producer_timestamp":"2
 files what waits is settled before a sweep
 facts a 2024-05-01T10:00:00Z {"k":1}
 facts b 2024-05-01T10:00:00Z {"k":2}
-sweep expire,purge 2024-05-08T10:00:00.000000001Z
+bytes sweep expire,purge 2024-05-08T10:00:00.000000001Z\n
 facts c 2024-05-08T12:00:00Z {"k":3}
 do run <call> 2024-05-09T00:00:00Z
 printed received 3
