@@ -7,9 +7,6 @@ use std::process::Abort;
 use std::sync::Wait;
 use std::thread::Threads;
 
-/// The words that stand for the numbers of a round.
-const NAMES: [&str; 3] = ["<disk>", "<call>", "<image>"];
-
 // Appends the numbers of a list such as `0,2..5`, of which the end of a range is left out.
 fn add_numbers(numbers: &mut Vec<u64>, list: &str) -> Result<(), AllocError> {
     for span in list.split(',') {
@@ -95,6 +92,22 @@ impl Rounds {
         noted
     }
 
+    // Plays the scenario with these numbers.
+    fn play_round<R: Threads + Wait + Sync>(
+        &mut self,
+        rt: &R,
+        alloc: Global,
+        scenario: &str,
+        disk: u64,
+        call: u64,
+        image: u64,
+    ) -> Result<(), AllocError> {
+        let text = filled(alloc, scenario, "<disk>", disk)?;
+        let text = filled(alloc, text.as_str(), "<call>", call)?;
+        let text = filled(alloc, text.as_str(), "<image>", image)?;
+        self.play_once(rt, alloc, text.as_str())
+    }
+
     // Compares what the rounds of the scenario came to with what it lists. `any one` stands for a single outcome.
     fn compare(&mut self, scenario: &str, listed: &str) -> Result<(), AllocError> {
         let outcomes = self.outcomes.as_str();
@@ -108,27 +121,6 @@ impl Rounds {
     }
 }
 
-// Plays the scenario for each number of each name.
-fn play_each<R: Threads + Wait + Sync>(
-    rt: &R,
-    alloc: Global,
-    names: &[&str],
-    scenario: &str,
-    rounds: &mut Rounds,
-) -> Result<(), AllocError> {
-    match names {
-        [] => rounds.play_once(rt, alloc, scenario),
-        [name, rest @ ..] => {
-            let numbers = numbers_of(alloc, scenario, name)?;
-            for number in numbers.iter() {
-                let text = filled(alloc, scenario, name, *number)?;
-                play_each(rt, alloc, rest, text.as_str(), rounds)?;
-            }
-            Ok(())
-        }
-    }
-}
-
 // Plays all rounds of the scenario.
 fn play_scenario<R: Threads + Wait + Sync>(
     rt: &R,
@@ -137,7 +129,16 @@ fn play_scenario<R: Threads + Wait + Sync>(
     rounds: &mut Rounds,
 ) -> Result<(), AllocError> {
     rounds.outcomes.clear();
-    play_each(rt, alloc, &NAMES, scenario, rounds)?;
+    let disks = numbers_of(alloc, scenario, "<disk>")?;
+    let calls = numbers_of(alloc, scenario, "<call>")?;
+    let images = numbers_of(alloc, scenario, "<image>")?;
+    for disk in disks.iter() {
+        for call in calls.iter() {
+            for image in images.iter() {
+                rounds.play_round(rt, alloc, scenario, *disk, *call, *image)?;
+            }
+        }
+    }
     let listed = listed(alloc, scenario)?;
     rounds.compare(scenario, listed.as_str())
 }
