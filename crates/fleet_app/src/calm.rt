@@ -58,7 +58,14 @@ pub fn run_calm<S: Source + Drop, O: Sink + Drop, D: Disk + Drop, P: Patterns + 
             Some(asked) => {
                 if is_calm(&asked.request) {
                     run_request(
-                        alloc, words, asked.request, asked.query, spool, out, disks, patterns,
+                        alloc,
+                        words,
+                        asked.request,
+                        asked.query,
+                        spool,
+                        out,
+                        disks,
+                        patterns,
                     )
                 } else {
                     unused(disks)
