@@ -163,15 +163,17 @@ fn shown_by(told: &Told) -> u64 {
         | bit_at(done > told.ended, 64)
 }
 
-/// Tries a script over laid disks: six sessions and crashes at most, with `/` between them.
+/// Tries a script over laid disks: nine sessions and crashes at most, with `/` between them.
 pub(crate) fn try_core(notes: &mut Notes, script: &str, fault: Fault) -> Result<u64, AllocError> {
     let (first, rest) = parts_of(script, "/");
-    let (second, more) = parts_of(rest, "/");
+    let (second, rest) = parts_of(rest, "/");
+    let (third, more) = parts_of(rest, "/");
     says(notes, more.is_empty(), "true")?;
     let mut told = SILENCE;
     let disks = laid(notes, fault)?;
     let disks = three_parts(notes, disks, &mut told, first, fault)?;
     let disks = three_parts(notes, disks, &mut told, second, fault)?;
+    let disks = three_parts(notes, disks, &mut told, third, fault)?;
     drop(disks);
     Ok(shown_by(&told))
 }
