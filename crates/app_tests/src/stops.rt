@@ -38,6 +38,7 @@ outcome calm 0"#;
 /// The stops of the store.
 const FOUR_STORE: &str = r#"each <disk>=2 <call>=0..48 <image>=0..4
 outcome fault 14 store fault
+outcome fault 7 store down
 outcome calm 0
 
 each <disk>=3 <call>=0..32 <image>=0..4
