@@ -1,5 +1,5 @@
 -- From the answer of a route to that of a request.
-use Rattle.std.proofs.Common.{◌≡◌, ◌≢◌, ◌∙◌, inl, inr, ℕ, ◌≤◌, ℤ, List, length, refl, sym, ap, subst, arith, true, false, Option, Some, None, Result, Ok, Err}
+use Rattle.std.proofs.Common.{◌≡◌, ◌≢◌, ◌∙◌, inl, inr, ℕ, ◌≤◌, ℤ, List, [], length, refl, sym, ap, subst, arith, true, false, Option, Some, None, Result, Ok, Err}
 use Rattle.std.specs.Prelude.{codes, IfOk}
 use Rattle.routes_spec.specs.fleet_rows.declared.command.Command.{Command}
 use Rattle.http_spec.specs.declared.answer.Answer.{Answer}
@@ -14,6 +14,7 @@ use Rattle.routes_spec.specs.declared.route.Route.{Route}
 use Rattle.routes_spec.specs.declared.route.Route.TheVariants.{Commands, Queries, RowsOf}
 use Rattle.routes_spec.specs.Answers.{Met, nothing_met, error, IsCommandAnswer, IsQueryAnswer, IsRouteAnswer, IsMethodAnswer, IsPathAnswer, IsAnswer}
 use Rattle.fleet_rows.specs.declared.submitted.Submitted.{Submitted}
+use Rattle.routes_spec.specs.Reading.{IsReadOn}
 use Rattle.routes_spec.specs.Routes.{route_at, path_of, takes_method}
 use Rattle.http_routes.specs.Course.{outside, IsAnswered}
 use Rattle.http_routes.specs.Moves.{Moves, Answers, Reads, Submits, IsPostMet, IsAskAnswer, IsAskMet}
@@ -38,21 +39,21 @@ post_moves Step inbox after before count met (submits, none) =
 ask_moves : {H : Type 0} (Step : Command → Submitted → H → H → Type 0) (inbox : H) (before now : Option (List Asked)) (count later : ℕ) (met : Met) → IsAskMet before now count later met → Moves Step met inbox inbox before now count later
 ask_moves Step inbox before now count later met (none, reads) = record { submits = subst (λ o. Submits Step o inbox inbox) (sym none) refl; reads = reads }
 
-answers_by : {E : Type 0} (M N : Met → Type 0) (P Q : Met → Answer → Type 0) (result : Result Answer E) → ((met : Met) → M met → N met)
-    → ((met : Met) (a : Answer) → M met → P met a → Q met a) → Answers M P result → Answers N Q result
-answers_by M N P Q (Ok a) moves on (met, m, h) = (met, moves met m, on met a m h)
-answers_by M N P Q (Err e) moves on (met, m, inl (other, h)) = (met, moves met m, inl (other, on met other m h))
-answers_by M N P Q (Err e) moves on (met, m, inr h) = (met, moves met m, inr h)
+answers_by : {E : Type 0} (M N : Met → Type 0) (B C : List Asked → Type 0) (P Q : Met → Answer → Type 0) (result : Result Answer E) → ((met : Met) → M met → N met)
+    → ((asked : List Asked) → B asked → C asked) → ((met : Met) (a : Answer) → M met → P met a → Q met a) → Answers M B P result → Answers N C Q result
+answers_by M N B C P Q (Ok a) moves before on (met, m, h) = (met, moves met m, on met a m h)
+answers_by M N B C P Q (Err e) moves before on (met, m, inl (other, h)) = (met, moves met m, inl (other, on met other m h))
+answers_by M N B C P Q (Err e) moves before on (met, m, inr (none, h)) = (met, moves met m, inr (none, before met.asked h))
 
 module _ {E H : Type 0} (Step : Command → Submitted → H → H → Type 0) (w : World) (print : OutRows → List ℕ) (now : ℤ) (r : Request) (result : Result Answer E) where
   posted_on : (route : Route) (met : Met) (a : Answer) → route ≡ Commands → IsCommandAnswer now r met a → IsRouteAnswer w print now route r met a
   posted_on route met a is h = subst (λ x. IsRouteAnswer w print now x r met a) (sym is) h
 
-  pub post_routed : (route : Route) (inbox after : H) (before : Option (List Asked)) (count : ℕ) → route ≡ Commands → Answers (IsPostMet Step inbox after) (IsCommandAnswer now r) result
-      → Answers (λ met. Moves Step met inbox after before before count count) (IsRouteAnswer w print now route r) result
+  pub post_routed : (route : Route) (inbox after : H) (before : Option (List Asked)) (count : ℕ) → route ≡ Commands → Answers (IsPostMet Step inbox after) (λ asked. asked ≡ []) (IsCommandAnswer now r) result
+      → Answers (λ met. Moves Step met inbox after before before count count) (IsReadOn route r) (IsRouteAnswer w print now route r) result
   post_routed route inbox after before count on h =
-      answers_by (IsPostMet Step inbox after) (λ met. Moves Step met inbox after before before count count) (IsCommandAnswer now r) (IsRouteAnswer w print now route r) result
-      (post_moves Step inbox after before count) (λ met a m there. posted_on route met a on there) h
+      answers_by (IsPostMet Step inbox after) (λ met. Moves Step met inbox after before before count count) (λ asked. asked ≡ []) (IsReadOn route r) (IsCommandAnswer now r) (IsRouteAnswer w print now route r) result
+      (post_moves Step inbox after before count) (λ asked none. inl none) (λ met a m there. posted_on route met a on there) h
 
   asked_on : (route : Route) (met : Met) (a : Answer) → (route ≡ Commands → ⊥) → IsQueryAnswer w print route r met a → IsRouteAnswer w print now route r met a
   asked_on Commands met a other h = absurd (other refl)
@@ -60,11 +61,11 @@ module _ {E H : Type 0} (Step : Command → Submitted → H → H → Type 0) (w
   asked_on (RowsOf e) met a other h = h
 
   pub ask_routed : (route : Route) (inbox : H) (before after_asked : Option (List Asked)) (count later : ℕ) → (route ≡ Commands → ⊥)
-      → Answers (IsAskMet before after_asked count later) (IsAskAnswer w print route r) result
-      → Answers (λ met. Moves Step met inbox inbox before after_asked count later) (IsRouteAnswer w print now route r) result
+      → Answers (IsAskMet before after_asked count later) (IsReadOn route r) (IsAskAnswer w print route r) result
+      → Answers (λ met. Moves Step met inbox inbox before after_asked count later) (IsReadOn route r) (IsRouteAnswer w print now route r) result
   ask_routed route inbox before after_asked count later other h =
-      answers_by (IsAskMet before after_asked count later) (λ met. Moves Step met inbox inbox before after_asked count later) (IsAskAnswer w print route r)
-      (IsRouteAnswer w print now route r) result (ask_moves Step inbox before after_asked count later) (λ met a m there. asked_on route met a other (m.0, (there.0, there.1, there.2))) h
+      answers_by (IsAskMet before after_asked count later) (λ met. Moves Step met inbox inbox before after_asked count later) (IsReadOn route r) (IsReadOn route r) (IsAskAnswer w print route r)
+      (IsRouteAnswer w print now route r) result (ask_moves Step inbox before after_asked count later) (λ asked read. read) (λ met a m there. asked_on route met a other (m.0, (there.0, there.1, there.2))) h
 
   -- ---- the answer to the request
 
@@ -74,16 +75,16 @@ module _ {E H : Type 0} (Step : Command → Submitted → H → H → Type 0) (w
       subst (λ o. IsPathAnswer w print now o r met a) (sym at) (subst (λ t. IsMethodAnswer w print now t route r met a) (sym takes) h)
 
   pub routed_answered : (route : Route) (inbox after : H) (before after_asked : Option (List Asked)) (count later : ℕ) → route_at (path_of r.target) ≡ Some route → takes_method route r.method ≡ true
-      → Answers (λ met. Moves Step met inbox after before after_asked count later) (IsRouteAnswer w print now route r) result → IfOk result (λ a. a.code ≢ 500)
+      → Answers (λ met. Moves Step met inbox after before after_asked count later) (IsReadOn route r) (IsRouteAnswer w print now route r) result → IfOk result (λ a. a.code ≢ 500)
       → IsAnswered Step w print now r (outside inbox before count) (outside after after_asked later) result
   routed_answered route inbox after before after_asked count later at takes answers code = by_result result answers code
     where
-      by_result : (s : Result Answer E) → Answers (λ met. Moves Step met inbox after before after_asked count later) (IsRouteAnswer w print now route r) s → IfOk s (λ a. a.code ≢ 500)
+      by_result : (s : Result Answer E) → Answers (λ met. Moves Step met inbox after before after_asked count later) (IsReadOn route r) (IsRouteAnswer w print now route r) s → IfOk s (λ a. a.code ≢ 500)
           → IsAnswered Step w print now r (outside inbox before count) (outside after after_asked later) s
       by_result (Ok a) (met, moves, h) code =
           (met, moves, record { is_answer = route_answer route met a at takes h; has_memory = λ same. code (ap (λ (x : Answer). x.code) same) })
       by_result (Err e) (met, moves, inl (other, h)) code = (met, moves, inl (other, route_answer route met other at takes h))
-      by_result (Err e) (met, moves, inr h) code = (met, moves, inr h)
+      by_result (Err e) (met, moves, inr (none, read)) code = (met, moves, inr (none, (route, at, takes, read)))
 
   -- an answer with which nothing is met
   error_answered : (number : ℕ) (text : List ℕ) (inbox : H) (before : Option (List Asked)) (count : ℕ) → (number ≡ 500 → ⊥) → IsAnswer w print now r nothing_met (error r.ends number text)

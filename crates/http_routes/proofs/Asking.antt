@@ -1,7 +1,6 @@
 -- From what is asked to what is answered.
 use Rattle.std.proofs.Common.{◌≡◌, ◌≢◌, ◌∙◌, inl, inr, ℕ, List, [], ◌∷◌, ◌++◌, refl, sym, ap, subst, arith, Bool, true, false, Option, Some, None, Result, Ok, Err, append-nil}
 use Rattle.std.specs.Prelude.{codes, IfOk}
-use Rattle.std.specs.List.{AllByRecursion}
 use Rattle.routes_spec.specs.fleet_ports.Counts.{Counts}
 use Rattle.http_spec.specs.declared.answer.Answer.{Answer}
 use Rattle.http_spec.specs.declared.request.Request.{Request}
@@ -30,6 +29,7 @@ use Rattle.routes_spec.specs.query_answer.declared.refusal.QueryRefusal.TheVaria
 use Rattle.routes_spec.specs.Answers as meant
 use Rattle.routes_spec.specs.Answers.{nothing_met, error, IsSummedAnswer, IsRowsAnswer, IsToldAnswer, IsQuestionAnswer}
 use Rattle.routes_spec.specs.Parameters.{parameters_of}
+use Rattle.routes_spec.specs.Reading.{ReadsFront, IsReadOf, IsReadOn}
 use Rattle.routes_spec.specs.Routes.{query_of}
 use Rattle.routes_spec.specs.Queries.{Question as Meant, IsQuestion, IsToldOn}
 use Rattle.routes_spec.specs.declared.route.Route.{Route}
@@ -41,9 +41,9 @@ use Rattle.http_routes.specs.Questions.{SamePaging, Asks, IfAsked}
 
 -- ---- patterns that were read
 
-pub none_refused : (ps : List Pattern) → AllByRecursion (λ (a : Asked). a.1 ≡ false) (taken ps)
-none_refused [] = tt
-none_refused (p ∷ ps) = (refl, none_refused ps)
+-- all of them are a prefix
+all_read : (q : Level) → ReadsFront q (taken (level_patterns q))
+all_read q = record { earlier = level_patterns q; later = []; patterns_are = sym (append-nil (level_patterns q)); asked = refl }
 
 no_refused_one : (ps : List Pattern) → IsOneRefused (taken ps) → ⊥
 no_refused_one [] h = no_truth h
@@ -76,7 +76,7 @@ reads_nothing before count =
 
 module _ {E : Type 0} (w : World) (ends : Bool) (q : Level) (under : List ℕ → Option ParamValue) (before now : Option (List Asked)) (count later : ℕ) (result : Result Answer E) where
   abbrev IsTold : Type 0
-  IsTold = AnswersAsked before now count later (IsRowsAnswer w written_text ends q under) result
+  IsTold = AnswersAsked before now count later (ReadsFront q) (IsRowsAnswer w written_text ends q under) result
 
   same_page : (p : Result Paging (List ℕ)) → paged_answer ends (means w q) p ≡ meant.paged_answer w written_text ends (means w q) p
   same_page (Ok p) = refl
@@ -92,7 +92,7 @@ module _ {E : Type 0} (w : World) (ends : Bool) (q : Level) (under : List ℕ �
       reads : Reads (taken (level_patterns q)) before now count later
       reads = reads_taken (level_patterns q) before now count later asked counts (λ h. h)
 
-      by_result : (r : Result Answer E) → IfOk r (IsPagedAnswer ends q under (rows_of picked.rows)) → AnswersAsked before now count later (IsRowsAnswer w written_text ends q under) r
+      by_result : (r : Result Answer E) → IfOk r (IsPagedAnswer ends q under (rows_of picked.rows)) → AnswersAsked before now count later (ReadsFront q) (IsRowsAnswer w written_text ends q under) r
       by_result (Ok a) is = (
         taken (level_patterns q),
         reads,
@@ -102,7 +102,7 @@ module _ {E : Type 0} (w : World) (ends : Bool) (q : Level) (under : List ℕ �
               (summed a (subst (λ rows. IsPagedAnswer ends q under rows a) m.1 is)),
         ),
       )
-      by_result (Err e) is = (taken (level_patterns q), reads, inr (none_refused (level_patterns q)))
+      by_result (Err e) is = (taken (level_patterns q), reads, inr (all_read q))
 
   pub large_told : (path : List ℕ) → MatchPicked w q (Err (pick.SumTooLarge path)) → AreAsked {A = Picked} (level_patterns q) before now (Err (pick.SumTooLarge path))
       → Counts count later (IsBadPattern {A = Picked} (Err (pick.SumTooLarge path))) → IfOk result (λ a. a ≡ error ends 400 (refusal_text (SumTooLarge path))) → IsTold
@@ -114,7 +114,7 @@ module _ {E : Type 0} (w : World) (ends : Bool) (q : Level) (under : List ℕ �
       is_told : (a : Answer) → a ≡ error ends 400 (refusal_text (SumTooLarge path)) → IsRowsAnswer w written_text ends q under (taken (level_patterns q)) a
       is_told a is = inl (refl, subst (λ o. IsSummedAnswer w written_text ends q under o a) (sym large) is)
 
-      by_result : (r : Result Answer E) → IfOk r (λ a. a ≡ error ends 400 (refusal_text (SumTooLarge path))) → AnswersAsked before now count later (IsRowsAnswer w written_text ends q under) r
+      by_result : (r : Result Answer E) → IfOk r (λ a. a ≡ error ends 400 (refusal_text (SumTooLarge path))) → AnswersAsked before now count later (ReadsFront q) (IsRowsAnswer w written_text ends q under) r
       by_result (Ok a) is = (taken (level_patterns q), reads, is_told a is)
       by_result (Err e) is = (taken (level_patterns q), reads, inl (error ends 400 (refusal_text (SumTooLarge path)), is_told _ refl))
 
@@ -142,15 +142,15 @@ module _ {E : Type 0} (w : World) (ends : Bool) (q : Level) (under : List ℕ �
         is,
       )
 
-      by_result : (r : Result Answer E) → IfOk r (λ a. a ≡ error ends 400 (refusal_text (BadPattern path))) → AnswersAsked before now count later (IsRowsAnswer w written_text ends q under) r
+      by_result : (r : Result Answer E) → IfOk r (λ a. a ≡ error ends 400 (refusal_text (BadPattern path))) → AnswersAsked before now count later (ReadsFront q) (IsRowsAnswer w written_text ends q under) r
       by_result (Ok a) is = (taken first.earlier ++ (first.pattern.text, true) ∷ [], reads, is_told a is)
       by_result (Err e) is = (taken first.earlier ++ (first.pattern.text, true) ∷ [], reads, inl (error ends 400 (refusal_text (BadPattern path)), is_told _ refl))
 
 pub memory_told : {E : Type 0} (w : World) (ends : Bool) (q : Level) (under : List ℕ → Option ParamValue) (before now : Option (List Asked)) (count later : ℕ) (e : E)
     → AreAsked {A = Picked} (level_patterns q) before now (Err pick.Memory) → Counts count later (IsBadPattern {A = Picked} (Err pick.Memory))
-    → AnswersAsked before now count later (IsRowsAnswer w written_text ends q under) (Err e)
+    → AnswersAsked before now count later (ReadsFront q) (IsRowsAnswer w written_text ends q under) (Err e)
 memory_told w ends q under before now count later e front counts =
-    (taken front.earlier, reads_taken front.earlier before now count later front.asked counts (λ h. h), inr (none_refused front.earlier))
+    (taken front.earlier, reads_taken front.earlier before now count later front.asked counts (λ h. h), inr (record { earlier = front.earlier; later = front.later; patterns_are = front.patterns_are; asked = refl }))
 
 -- where there is no paging
 pub unpaged_told : {E : Type 0} (ends : Bool) (q : Level) (under : List ℕ → Option ParamValue) (rows : OutRows) (fault : PagingFault) (result : Result Answer E)
@@ -168,7 +168,7 @@ unpaged_code ends page_fault.Memory (Err e) told = tt
 -- what was picked is told
 pub rows_told : {E : Type 0} (w : World) (ends : Bool) (q : Level) (under : List ℕ → Option ParamValue) (before now : Option (List Asked)) (count later : ℕ)
     (picked : Result Picked QueryFault) (result : Result Answer E) → MatchPicked w q picked → AreAsked (level_patterns q) before now picked → Counts count later (IsBadPattern picked)
-    → IsPickedAnswer ends q under picked result → AnswersAsked before now count later (IsRowsAnswer w written_text ends q under) result
+    → IsPickedAnswer ends q under picked result → AnswersAsked before now count later (ReadsFront q) (IsRowsAnswer w written_text ends q under) result
 rows_told w ends q under before now count later (Ok picked) result m asked counts is = picked_told w ends q under before now count later result picked m asked counts is
 rows_told w ends q under before now count later (Err (pick.SumTooLarge path)) result m asked counts is = large_told w ends q under before now count later result path m asked counts is
 rows_told w ends q under before now count later (Err (pick.BadPattern path)) result m asked counts is = refused_told w ends q under before now count later result path asked counts is
@@ -195,27 +195,30 @@ module _ (w : World) (ends : Bool) (q : Level) (u v : List ℕ → Option ParamV
 
 -- ---- a question
 
-answers_on : {E : Type 0} (before now : Option (List Asked)) (count later : ℕ) (P Q : List Asked → Answer → Type 0) (result : Result Answer E) → ((asked : List Asked) (a : Answer) → P asked a → Q asked a)
-    → AnswersAsked before now count later P result → AnswersAsked before now count later Q result
-answers_on before now count later P Q (Ok a) on (asked, reads, h) = (asked, reads, on asked a h)
-answers_on before now count later P Q (Err e) on (asked, reads, inl (other, h)) = (asked, reads, inl (other, on asked other h))
-answers_on before now count later P Q (Err e) on (asked, reads, inr h) = (asked, reads, inr h)
+answers_on : {E : Type 0} (before now : Option (List Asked)) (count later : ℕ) (B C : List Asked → Type 0) (P Q : List Asked → Answer → Type 0) (result : Result Answer E)
+    → ((asked : List Asked) → B asked → C asked) → ((asked : List Asked) (a : Answer) → P asked a → Q asked a)
+    → AnswersAsked before now count later B P result → AnswersAsked before now count later C Q result
+answers_on before now count later B C P Q (Ok a) front on (asked, reads, h) = (asked, reads, on asked a h)
+answers_on before now count later B C P Q (Err e) front on (asked, reads, inl (other, h)) = (asked, reads, inl (other, on asked other h))
+answers_on before now count later B C P Q (Err e) front on (asked, reads, inr h) = (asked, reads, inr (front asked h))
 
 module _ (w : World) (ends : Bool) (route : Route) (kept : Question) (question : Meant) (asks : Asks kept question) where
   told_on : (told : Option Told) → IsToldOn route kept.query told → IsToldOn route question.query told
   told_on told h = subst (λ o. IsToldOn route o told) asks.query h
 
   pub rows_asked : {E : Type 0} (q : Level) (before now : Option (List Asked)) (count later : ℕ) (result : Result Answer E) → IsToldOn route kept.query (Some (Ok q))
-      → AnswersAsked before now count later (IsRowsAnswer w written_text ends q (λ name. last_under name kept.params)) result
-      → AnswersAsked before now count later (IsQuestionAnswer w written_text ends route (Some question)) result
+      → AnswersAsked before now count later (ReadsFront q) (IsRowsAnswer w written_text ends q (λ name. last_under name kept.params)) result
+      → AnswersAsked before now count later (IsReadOf route question.query) (IsQuestionAnswer w written_text ends route (Some question)) result
   rows_asked q before now count later result told h =
-      answers_on before now count later (IsRowsAnswer w written_text ends q (λ name. last_under name kept.params)) (IsQuestionAnswer w written_text ends route (Some question)) result
+      answers_on before now count later (ReadsFront q) (IsReadOf route question.query) (IsRowsAnswer w written_text ends q (λ name. last_under name kept.params))
+      (IsQuestionAnswer w written_text ends route (Some question)) result
+      (λ asked front. inr (q, told_on (Some (Ok q)) told, front))
       (λ asked a is. (Some (Ok q), told_on (Some (Ok q)) told, same_rows w ends q (λ name. last_under name kept.params) question.under asks.paging asked a is)) h
 
   -- no rows are asked for, for this reason
   pub none_asked : {E : Type 0} (told : Option Told) (answer : Answer) (before : Option (List Asked)) (count : ℕ) (result : Result Answer E) → IsToldOn route kept.query told
       → IsToldAnswer w written_text ends question.under told [] answer → IfOk result (λ a. a ≡ answer)
-      → AnswersAsked before before count count (IsQuestionAnswer w written_text ends route (Some question)) result
+      → AnswersAsked before before count count (IsReadOf route question.query) (IsQuestionAnswer w written_text ends route (Some question)) result
   none_asked told answer before count (Ok a) is so same =
       ([], reads_nothing before count, (told, told_on told is, subst (λ x. IsToldAnswer w written_text ends question.under told [] x) (sym same) so))
   none_asked told answer before count (Err e) is so same = ([], reads_nothing before count, inl (answer, (told, told_on told is, so)))
@@ -224,35 +227,37 @@ module _ (w : World) (ends : Bool) (route : Route) (kept : Question) (question :
 
 module _ {E : Type 0} (w : World) (route : Route) (r : Request) (before now : Option (List Asked)) (count later : ℕ) where
   kept_asked : (kept : Question) (result : Result Answer E) → IfAsked (Some kept) (IsQuestion r.method (parameters_of (query_of r.target)) r.body)
-      → ((question : Meant) → Asks kept question → AnswersAsked before now count later (IsQuestionAnswer w written_text r.ends route (Some question)) result)
-      → Answers (IsAskMet before now count later) (IsAskAnswer w written_text route r) result
+      → ((question : Meant) → Asks kept question → AnswersAsked before now count later (IsReadOf route question.query) (IsQuestionAnswer w written_text r.ends route (Some question)) result)
+      → Answers (IsAskMet before now count later) (IsReadOn route r) (IsAskAnswer w written_text route r) result
   kept_asked kept result (Some question, asks, is) told = by_result result (told question asks)
     where
-      by_result : (a : Result Answer E) → AnswersAsked before now count later (IsQuestionAnswer w written_text r.ends route (Some question)) a
-          → Answers (IsAskMet before now count later) (IsAskAnswer w written_text route r) a
+      by_result : (a : Result Answer E) → AnswersAsked before now count later (IsReadOf route question.query) (IsQuestionAnswer w written_text r.ends route (Some question)) a
+          → Answers (IsAskMet before now count later) (IsReadOn route r) (IsAskAnswer w written_text route r) a
       by_result (Ok a) (asked, reads, h) = (record { submitted = None; asked = asked }, (refl, reads), (Some question, is, (h.0, h.1, h.2)))
       by_result (Err e) (asked, reads, inl (other, h)) = (record { submitted = None; asked = asked }, (refl, reads), inl (other, (Some question, is, (h.0, h.1, h.2))))
-      by_result (Err e) (asked, reads, inr h) = (record { submitted = None; asked = asked }, (refl, reads), inr (refl, h))
+      by_result (Err e) (asked, reads, inr (inl none)) = (record { submitted = None; asked = asked }, (refl, reads), inr (refl, inl none))
+      by_result (Err e) (asked, reads, inr (inr (q, told, front))) =
+          (record { submitted = None; asked = asked }, (refl, reads), inr (refl, inr (q, record { question = question; is_question = is; told = told }, front)))
   kept_asked kept result (None, asks, is) told = absurd asks
 
   pub question_asked : (o : Option Question) (kept : Question) (result : Result Answer E) → o ≡ Some kept → IfAsked o (IsQuestion r.method (parameters_of (query_of r.target)) r.body)
-      → ((question : Meant) → Asks kept question → AnswersAsked before now count later (IsQuestionAnswer w written_text r.ends route (Some question)) result)
-      → Answers (IsAskMet before now count later) (IsAskAnswer w written_text route r) result
+      → ((question : Meant) → Asks kept question → AnswersAsked before now count later (IsReadOf route question.query) (IsQuestionAnswer w written_text r.ends route (Some question)) result)
+      → Answers (IsAskMet before now count later) (IsReadOn route r) (IsAskAnswer w written_text route r) result
   question_asked o kept result is so told =
       kept_asked kept result (subst (λ k. IfAsked k (IsQuestion r.method (parameters_of (query_of r.target)) r.body)) is so) told
 
 module _ {E : Type 0} (w : World) (route : Route) (r : Request) (before : Option (List Asked)) (count : ℕ) where
   none_was_asked : (result : Result Answer E) → IfAsked None (IsQuestion r.method (parameters_of (query_of r.target)) r.body) → IfOk result (λ a. a ≡ error r.ends 400 (codes "bad body"))
-      → Answers (IsAskMet before before count count) (IsAskAnswer w written_text route r) result
+      → Answers (IsAskMet before before count count) (IsReadOn route r) (IsAskAnswer w written_text route r) result
   none_was_asked (Ok a) (None, asks, is) same = (nothing_met, (refl, reads_nothing before count), (None, is, (refl, same)))
   none_was_asked (Ok a) (Some question, asks, is) same = absurd asks
   none_was_asked (Err e) (None, asks, is) same = (nothing_met, (refl, reads_nothing before count), inl (error r.ends 400 (codes "bad body"), (None, is, (refl, refl))))
   none_was_asked (Err e) (Some question, asks, is) same = absurd asks
 
   pub nothing_asked : (o : Option Question) (result : Result Answer E) → o ≡ None → IfAsked o (IsQuestion r.method (parameters_of (query_of r.target)) r.body)
-      → IfOk result (λ a. a ≡ error r.ends 400 (codes "bad body")) → Answers (IsAskMet before before count count) (IsAskAnswer w written_text route r) result
+      → IfOk result (λ a. a ≡ error r.ends 400 (codes "bad body")) → Answers (IsAskMet before before count count) (IsReadOn route r) (IsAskAnswer w written_text route r) result
   nothing_asked o result is so told = none_was_asked result (subst (λ k. IfAsked k (IsQuestion r.method (parameters_of (query_of r.target)) r.body)) is so) told
 
-  pub not_asked : (result : Result Answer E) → IfOk result (λ _. ⊥) → Answers (IsAskMet before before count count) (IsAskAnswer w written_text route r) result
+  pub not_asked : (result : Result Answer E) → IfOk result (λ _. ⊥) → Answers (IsAskMet before before count count) (IsReadOn route r) (IsAskAnswer w written_text route r) result
   not_asked (Ok a) never = absurd never
-  not_asked (Err e) never = (nothing_met, (refl, reads_nothing before count), inr (refl, tt))
+  not_asked (Err e) never = (nothing_met, (refl, reads_nothing before count), inr (refl, inl refl))

@@ -28,27 +28,27 @@ received_then now list body c posted has =
 module _ {H : Type 0} (Step : Command → Submitted → H → H → Type 0) (now : ℤ) (r : Request) where
   -- a command was handed in
   pub handed_in : {E : Type 0} (list : Parameters) (inbox after : H) (c : Command) (s : Submitted) (result : Result Answer E) → list ≡ parameters_of (query_of r.target)
-      → IsPosted now list r.body (Ok c) → Step c s inbox after → IfOk result (λ told. told ≡ submitted_answer r.ends s) → Answers (IsPostMet Step inbox after) (IsCommandAnswer now r) result
+      → IsPosted now list r.body (Ok c) → Step c s inbox after → IfOk result (λ told. told ≡ submitted_answer r.ends s) → Answers (IsPostMet Step inbox after) (λ asked. asked ≡ []) (IsCommandAnswer now r) result
   handed_in {E} list inbox after c s result same posted submits is =
       by_result result (subst (λ p. IsPosted now p r.body (Ok c)) same posted) is
     where
       by_result : (a : Result Answer E) → IsPosted now (parameters_of (query_of r.target)) r.body (Ok c) → IfOk a (λ told. told ≡ submitted_answer r.ends s)
-          → Answers (IsPostMet Step inbox after) (IsCommandAnswer now r) a
+          → Answers (IsPostMet Step inbox after) (λ asked. asked ≡ []) (IsCommandAnswer now r) a
       by_result (Ok told) posted is = (record { submitted = Some (c, s); asked = [] }, (submits, refl), (Ok c, posted, (s, refl, is)))
       by_result (Err e) posted is = (record { submitted = Some (c, s); asked = [] }, (submits, refl), inl (submitted_answer r.ends s, (Ok c, posted, (s, refl, refl))))
 
   -- none was, for this reason
   pub not_handed_in : {E : Type 0} (list : Parameters) (inbox : H) (text : List ℕ) (result : Result Answer E) → list ≡ parameters_of (query_of r.target) → IsPosted now list r.body (Err text)
-      → IfOk result (λ told. told ≡ error r.ends 400 text) → Answers (IsPostMet Step inbox inbox) (IsCommandAnswer now r) result
+      → IfOk result (λ told. told ≡ error r.ends 400 text) → Answers (IsPostMet Step inbox inbox) (λ asked. asked ≡ []) (IsCommandAnswer now r) result
   not_handed_in {E} list inbox text result same posted is =
       by_result result (subst (λ p. IsPosted now p r.body (Err text)) same posted) is
     where
       by_result : (a : Result Answer E) → IsPosted now (parameters_of (query_of r.target)) r.body (Err text) → IfOk a (λ told. told ≡ error r.ends 400 text)
-          → Answers (IsPostMet Step inbox inbox) (IsCommandAnswer now r) a
+          → Answers (IsPostMet Step inbox inbox) (λ asked. asked ≡ []) (IsCommandAnswer now r) a
       by_result (Ok told) posted is = (nothing_met, (refl, refl), (Err text, posted, (refl, is)))
       by_result (Err e) posted is = (nothing_met, (refl, refl), inl (error r.ends 400 text, (Err text, posted, (refl, refl))))
 
   -- there was no memory
-  pub not_posted : {E : Type 0} (inbox : H) (result : Result Answer E) → IfOk result (λ _. ⊥) → Answers (IsPostMet Step inbox inbox) (IsCommandAnswer now r) result
+  pub not_posted : {E : Type 0} (inbox : H) (result : Result Answer E) → IfOk result (λ _. ⊥) → Answers (IsPostMet Step inbox inbox) (λ asked. asked ≡ []) (IsCommandAnswer now r) result
   not_posted inbox (Ok a) never = absurd never
-  not_posted inbox (Err e) never = (nothing_met, (refl, refl), inr (refl, tt))
+  not_posted inbox (Err e) never = (nothing_met, (refl, refl), inr (refl, refl))

@@ -1,6 +1,5 @@
 -- The answers to questions on the query routes, built step by step.
 use Rattle.std.specs.Prelude.{◌≡◌, ◌⊎◌, ℕ, ◌++◌, List, length, codes, false, Bool, if◌then◌else◌, Option, Some, None, Result, Ok, Err, IfOk}
-use Rattle.std.specs.List.{AllByRecursion}
 use Rattle.http_spec.specs.declared.answer.Answer.{Answer}
 use Rattle.routes_spec.specs.means_spec.OutRows.{OutRows, names_of, page}
 use Rattle.paging_params.specs.Params.{ParamValue}
@@ -51,9 +50,9 @@ abbrev pub IsPickedAnswer : {E : Type 0} → Bool → Level → (List ℕ → Op
 IsPickedAnswer ends q under (Ok picked) result = IfOk result (IsPagedAnswer ends q under (rows_of picked.rows))
 IsPickedAnswer ends q under (Err fault) result = IsUnpickedAnswer ends fault result
 
--- the answer P after these patterns were read. Without memory, the patterns are those of some answer, or none of them was refused
-abbrev pub AnswersAsked : {E : Type 0} → Option (List Asked) → Option (List Asked) → ℕ → ℕ → (List Asked → Answer → Type 0) → Result Answer E → Type 0
-AnswersAsked before now count later P (Ok answer) = (asked : List Asked) × Reads asked before now count later × P asked answer
-AnswersAsked before now count later P (Err e) =
+-- the answer P after these patterns were read. Without memory, the patterns are those of some answer, or as Before says
+abbrev pub AnswersAsked : {E : Type 0} → Option (List Asked) → Option (List Asked) → ℕ → ℕ → (List Asked → Type 0) → (List Asked → Answer → Type 0) → Result Answer E → Type 0
+AnswersAsked before now count later Before P (Ok answer) = (asked : List Asked) × Reads asked before now count later × P asked answer
+AnswersAsked before now count later Before P (Err e) =
     (asked : List Asked) × Reads asked before now count later
-    × (((other : Answer) × P asked other) ⊎ AllByRecursion (λ (a : Asked). a.1 ≡ false) asked)
+    × (((other : Answer) × P asked other) ⊎ Before asked)

@@ -1,6 +1,6 @@
 -- How an answer changes the outside state: the inbox, and which patterns were read.
-use Rattle.std.specs.Prelude.{◌≡◌, ◌⊎◌, ℕ, List, [], true, false, Option, Some, None, Result, Ok, Err}
-use Rattle.std.specs.List.{AllByRecursion, list_any}
+use Rattle.std.specs.Prelude.{◌≡◌, ◌⊎◌, ℕ, List, [], true, Option, Some, None, Result, Ok, Err}
+use Rattle.std.specs.List.{list_any}
 use Rattle.routes_spec.specs.fleet_ports.Counts.{Counts}
 use Rattle.routes_spec.specs.fleet_rows.declared.command.Command.{Command}
 use Rattle.http_spec.specs.declared.answer.Answer.{Answer}
@@ -33,13 +33,13 @@ pub record Moves {H : Type 0} (Step : Command → Submitted → H → H → Type
   pub submits : Submits Step met.submitted inbox after
   pub reads : Reads met.asked before now count later
 
--- the answer P with its changes. Without memory, the changes are those of some answer, or no command was submitted and no pattern
--- was refused
-abbrev pub Answers : {E : Type 0} → (Met → Type 0) → (Met → Answer → Type 0) → Result Answer E → Type 0
-Answers moves P (Ok answer) = (met : Met) × moves met × P met answer
-Answers moves P (Err e) =
+-- the answer P with its changes. Without memory, the changes are those of some answer, or no command was submitted and the
+-- patterns were read as Before says
+abbrev pub Answers : {E : Type 0} → (Met → Type 0) → (List Asked → Type 0) → (Met → Answer → Type 0) → Result Answer E → Type 0
+Answers moves Before P (Ok answer) = (met : Met) × moves met × P met answer
+Answers moves Before P (Err e) =
     (met : Met) × moves met
-    × (((other : Answer) × P met other) ⊎ ((met.submitted ≡ None) × AllByRecursion (λ (a : Asked). a.1 ≡ false) met.asked))
+    × (((other : Answer) × P met other) ⊎ ((met.submitted ≡ None) × Before met.asked))
 
 -- ---- the changes of each kind of route
 

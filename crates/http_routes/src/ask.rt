@@ -5,6 +5,7 @@ ghost use Rattle.paging_text.specs.Shown.{rows_of, written_text};
 ghost use Rattle.query_plain.specs.Tables.{world_of};
 ghost use Rattle.routes_spec.specs.Answers.{IsRowsAnswer, IsQuestionAnswer};
 ghost use Rattle.routes_spec.specs.Queries as meant;
+ghost use Rattle.routes_spec.specs.Reading.{ReadsFront, IsReadOf, IsReadOn};
 ghost use Rattle.http_routes.specs.Asked.{shown_answer, IsPagedAnswer, IsUnpagedAnswer, IsPickedAnswer, IsUnpickedAnswer, AnswersAsked};
 ghost use Rattle.http_routes.specs.Moves.{Answers, IsAskAnswer, IsAskMet};
 ghost use Rattle.http_routes.specs.Questions.{Asks};
@@ -108,6 +109,7 @@ fn rows_answer<P: Patterns>(
 ) -> Result<Answer, AllocError>
     ensures same { (p t : List ℕ) → P.says patterns.new p t ≡ P.says patterns.old p t }
     ensures answer { AnswersAsked (P.asked patterns.old) (P.asked patterns.new) (P.refusals patterns.old) (P.refusals patterns.new)
+        (ReadsFront query.now)
         (IsRowsAnswer (world_of tables.now (P.says patterns.old)) written_text ends query.now (λ name. last_under name params.now)) result }
     ensures code { IfOk result (λ answer. answer.code ≢ 500) }
 {
@@ -126,7 +128,7 @@ fn question_answer<P: Patterns>(
     ensures same { (p t : List ℕ) → P.says patterns.new p t ≡ P.says patterns.old p t }
     ensures answer { (asked : meant.Question) → Asks question asked
         → AnswersAsked (P.asked patterns.old) (P.asked patterns.new) (P.refusals patterns.old) (P.refusals patterns.new)
-        (IsQuestionAnswer (world_of tables.now (P.says patterns.old)) written_text ends route (Some asked)) result }
+        (IsReadOf route asked.query) (IsQuestionAnswer (world_of tables.now (P.says patterns.old)) written_text ends route (Some asked)) result }
     ensures code { IfOk result (λ answer. answer.code ≢ 500) }
 {
     let Question { query, params } = question;
@@ -148,7 +150,7 @@ pub(crate) fn ask<P: Patterns>(
 ) -> Result<Answer, AllocError>
     ensures same { (p t : List ℕ) → P.says patterns.new p t ≡ P.says patterns.old p t }
     ensures answer { Answers (IsAskMet (P.asked patterns.old) (P.asked patterns.new) (P.refusals patterns.old) (P.refusals patterns.new))
-        (IsAskAnswer (world_of tables.now (P.says patterns.old)) written_text route request.now) result }
+        (IsReadOn route request.now) (IsAskAnswer (world_of tables.now (P.says patterns.old)) written_text route request.now) result }
     ensures code { IfOk result (λ answer. answer.code ≢ 500) }
 {
     let ends = request.ends;

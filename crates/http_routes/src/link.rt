@@ -11,6 +11,7 @@ ghost use Rattle.routes_spec.specs.means_spec.World as spec;
 ghost use Rattle.paging_text.specs.Shown.{written_text};
 ghost use Rattle.query_plain.specs.Tables.{world_of};
 ghost use Rattle.routes_spec.specs.Answers.{IsRouteAnswer};
+ghost use Rattle.routes_spec.specs.Reading.{IsReadOn};
 ghost use Rattle.routes_spec.specs.Routes.{path_of, route_at, takes_method};
 ghost use Rattle.http_routes.specs.Inbox.{Takes};
 ghost use Rattle.http_routes.specs.Moves.{Moves, Answers};
@@ -57,7 +58,7 @@ fn routed<I: Inbox + Drop, P: Patterns + Drop>(
     ensures shown { I.shown inbox.new ≡ I.shown inbox.old }
     ensures same { (p t : List ℕ) → P.says patterns.new p t ≡ P.says patterns.old p t }
     ensures answer { Answers (λ met. Moves (Takes I.held I.does) met inbox.old inbox.new (P.asked patterns.old) (P.asked patterns.new)
-        (P.refusals patterns.old) (P.refusals patterns.new))
+        (P.refusals patterns.old) (P.refusals patterns.new)) (IsReadOn route request)
         (IsRouteAnswer (world_of (I.shown inbox.old) (P.says patterns.old)) written_text now route request) result }
     ensures code { IfOk result (λ answer. answer.code ≢ 500) }
 {

@@ -1,5 +1,5 @@
 //! Answers the requests on the command route.
-ghost use Rattle.std.specs.Prelude.{◌≡◌, ◌≢◌, ◌≤◌, length, IfOk};
+ghost use Rattle.std.specs.Prelude.{◌≡◌, ◌≢◌, ◌≤◌, [], length, IfOk};
 ghost use Rattle.routes_spec.specs.history_spec.Lawful.{HasStamp};
 ghost use Rattle.routes_spec.specs.Answers.{submitted_answer, IsCommandAnswer};
 ghost use Rattle.http_routes.specs.Inbox.{Takes};
@@ -39,7 +39,7 @@ pub(crate) fn post<I: Inbox + Drop>(
     requires body { length request.body ≤ most_payload }
     requires now { HasStamp now }
     ensures shown { I.shown inbox.new ≡ I.shown inbox.old }
-    ensures answer { Answers (IsPostMet (Takes I.held I.does) inbox.old inbox.new) (IsCommandAnswer now request) result }
+    ensures answer { Answers (IsPostMet (Takes I.held I.does) inbox.old inbox.new) (λ asked. asked ≡ []) (IsCommandAnswer now request) result }
     ensures code { IfOk result (λ answer. answer.code ≢ 500) }
 {
     let list = parameters_in(alloc, &request)?;

@@ -4,6 +4,7 @@ pub mod Commands
 pub mod HandedIn
 pub mod Queries
 pub mod Answers
+pub mod Reading
 pub mod Links
 -- Re-exports for the crates above.
 pub use Rattle.query_answer.specs.fleet_ports as fleet_ports

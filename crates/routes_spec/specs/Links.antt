@@ -9,9 +9,9 @@ use Rattle.http_spec.specs.Answers.{answer_text, fault_answer, memory_answer}
 use Rattle.http_spec.specs.Requests.{End, closed, faulty, ended, BeginsWithRequest, HasFault, IsCut}
 use Rattle.query_answer.specs.means_spec.OutRows.{OutRows}
 use Rattle.query_answer.specs.means_spec.World.{World}
-use Rattle.query_answer.specs.pattern_port.Refused.{Asked}
 use Rattle.fleet_rows.specs.declared.submitted.Submitted.{Submitted}
 use Rattle.routes_spec.specs.Answers.{Met, IsAnswer}
+use Rattle.routes_spec.specs.Reading.{IsReadFor}
 use Rattle.http_spec.specs.Limits.{most_link}
 
 -- how answering ends: with the connection, after each request was answered; without memory; or with a fault of the connection
@@ -46,11 +46,12 @@ module _ (w : World) (print : OutRows → List ℕ) (now : ℤ) where
     pub is_answer : IsAnswer w print now r met answer
     pub has_memory : answer ≡ memory_answer → ⊥
 
-  -- what happened as for some answer to the request, or only patterns were read and none was refused
+  -- what happened as for some answer to the request; or no command was submitted, and at most a prefix of the patterns of the
+  -- query that the request asks was read
   abbrev pub IsMetBefore : Request → Met → Type 0
   IsMetBefore r met =
       ((other : Answer) × IsAnswer w print now r met other)
-      ⊎ ((met.submitted ≡ None) × AllByRecursion (λ (a : Asked). a.1 ≡ false) met.asked)
+      ⊎ ((met.submitted ≡ None) × IsReadFor r met.asked)
 
   -- after it there was no memory to answer the request
   pub record IsCutOff (r : Request) (met : Met) (answer : Answer) : Type 0 where

@@ -1,6 +1,7 @@
 use Rattle.std.proofs.Common.{subst}
 use Rattle.paging_text.specs.Shown.{written_text}
 use Rattle.query_plain.specs.Tables.{world_of}
+use Rattle.routes_spec.specs.Reading.{IsReadOn}
 use Rattle.http_routes.specs.Inbox.{Takes}
 use Rattle.http_routes.specs.Moves.{Answers, IsAskMet, IsAskAnswer}
 use Rattle.http_routes.proofs.Answering.{post_routed, ask_routed}
@@ -20,6 +21,6 @@ returns-in_default-clause-answer g c =
     let new = c.ask.new.patterns in
     let answer =
     subst (λ t. Answers (IsAskMet (g.P.Patterns.asked old) (g.P.Patterns.asked new) (g.P.Patterns.refusals old) (g.P.Patterns.refusals new))
-    (IsAskAnswer (world_of t (g.P.Patterns.says old)) written_text c.args.route c.args.request) c.ask.result) c.tables.ensures c.ask.ensures.answer in
+    (IsReadOn c.args.route c.args.request) (IsAskAnswer (world_of t (g.P.Patterns.says old)) written_text c.args.route c.args.request) c.ask.result) c.tables.ensures c.ask.ensures.answer in
     ask_routed (Takes g.I.Inbox.held g.I.Inbox.does) (world_of (g.I.Inbox.shown inbox) (g.P.Patterns.says old)) written_text c.args.now c.args.request c.ask.result c.args.route inbox
     (g.P.Patterns.asked old) (g.P.Patterns.asked new) (g.P.Patterns.refusals old) (g.P.Patterns.refusals new) c.in_default.not-Commands answer

@@ -27,4 +27,4 @@ pub returns-in-Bad-clause-code : goal.returns-in-Bad-clause-code
 returns-in-Bad-clause-code g c = has_code (error c.args.request.ends 400 c.in-Bad.text.now) c.error.result (λ h. omega (arith, h)) c.error.ensures
 
 pub returns-clause-answer : goal.returns-clause-answer
-returns-clause-answer g c = (nothing_met, (refl, refl), inr (refl, tt))
+returns-clause-answer g c = (nothing_met, (refl, refl), inr (refl, refl))
