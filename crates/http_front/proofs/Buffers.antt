@@ -1,8 +1,11 @@
 -- What a body takes of the buffer, and when the link is asked for more.
-use Rattle.std.proofs.Common.{◌≡◌, ◌∙◌, ◌⊎◌, inl, inr, ℕ, ◌+◌, ◌≤◌, ◌<◌, List, ◌++◌, length, take, arith, ap, length-append}
+use Rattle.std.proofs.Common.{◌≡◌, ◌∙◌, ◌⊎◌, inl, inr, ℕ, ◌+◌, ◌≤◌, ◌<◌, List, [], ◌∷◌, ◌++◌, length, take, arith, refl, ap, subst, Option, length-append}
 use Rattle.std.specs.Prelude.{slice_range}
 use Rattle.std.proofs.lemmas.List.{length-take-le}
+use Rattle.std.specs.Io.KnownBytes.{Consumes, Keeps, prepend_known}
+use Rattle.std.proofs.KnownBytes.{Consumes-kept, prepend_known-nil}
 use Rattle.http_spec.proofs.of_plain_laws.ReadAhead.{written, more_range}
+use Rattle.http_front.specs.Inside.{IsShort}
 
 -- the buffer grows by what was read
 pub grows_by : (items r into post v old : List ℕ) (len s e n : ℕ) → s ≡ 0 → r ≡ items → slice_range items s e ≡ old → e ≤ length r → 1 ≤ n → n ≤ length into → e + n ≤ len
@@ -39,3 +42,18 @@ asks_end start now filled had all size (inl same) inside h = by_count (some_or_n
     by_count : (had ≡ 0) ⊎ (0 < had) → all < size
     by_count (inl none) = let count = same.1 in omega (arith, count, none, inside)
     by_count (inr some) = absurd (h some)
+
+-- a read failed behind a part of the body
+no_bytes : (bs : List ℕ) → length bs ≡ 0 → bs ≡ []
+no_bytes [] h = refl
+no_bytes (b ∷ bs) h = absurd (omega (arith, h))
+
+pub stops_short : (old mid rest : Option (List ℕ)) (bs body : List ℕ) (filled size : ℕ) → Consumes old mid (take filled body) → Keeps mid (prepend_known bs rest) → length bs ≡ 0 → filled ≤ length body → filled < size
+    → IsShort size old rest
+stops_short old mid rest bs body filled size gone kept none inside fewer = record {
+  part = take filled body;
+  is_taken =
+      subst (λ r. Consumes old r (take filled body)) (ap (λ xs. prepend_known xs rest) (no_bytes bs none) ∙ prepend_known-nil rest)
+      (Consumes-kept old mid (prepend_known bs rest) (take filled body) gone kept);
+  short = omega (arith, length-take-le filled body inside, fewer);
+}

@@ -17,9 +17,10 @@ use Rattle.http_front.specs.declared.incoming.NextRequest.{NextRequest}
 use Rattle.http_front.specs.declared.incoming.NextRequest.TheVariants as next
 use Rattle.http_front.specs.Heads.{ArePartsOf}
 use Rattle.http_front.specs.Fronts.{HasHead, EndsInHead, AsksForHead}
+use Rattle.http_front.specs.Inside.{IsShort}
 use Rattle.http_front.specs.Bodies.{IsOfParts, IsWithBody}
 use Rattle.http_front.proofs.Links.{after_kept}
-use Rattle.http_front.specs.Next.{IfRequest, IfBad, IfEnded, Gives, BeginsWith, IsBad, IsEnded, IsNext}
+use Rattle.http_front.specs.Next.{IfRequest, IfBad, IfEnded, Gives, BeginsWith, IsBad, IsEnded, IsNext, StopsIn}
 use Rattle.http_spec.specs.Limits.{most_head, most_lines}
 
 -- ---- the head's text is the front
@@ -161,7 +162,30 @@ body_next len lines size bytes left mid new parts h few p is_size mid_is next.En
 body_next len lines size bytes left mid new parts h few p is_size mid_is next.ReadFault x = tt
 body_next len lines size bytes left mid new parts h few p is_size mid_is next.Memory x = tt
 
+-- ---- what was taken before a read that failed
+
+pub stops_in_body : (len lines size : ℕ) (bytes : List ℕ) (left mid rest : Option (List ℕ)) (parts : Parts) → HasHead len lines bytes → lines ≤ most_lines → ArePartsOf parts (take len bytes)
+    → framing parts.method parts.headers ≡ sized size → mid ≡ prepend_known (drop len bytes) left → IsShort size mid rest → StopsIn (prepend_known bytes left) rest
+stops_in_body len lines size bytes left mid rest parts h few p is_size mid_is s = record {
+  taken = take len bytes ++ s.part;
+  is_taken =
+      Consumes-trans (prepend_known bytes left) (prepend_known (drop len bytes) left) rest (take len bytes) s.part (front_taken len bytes left)
+      (subst (λ m. Consumes m rest s.part) mid_is s.is_taken);
+  is_cut = inr (p.head, s.part, size, begins_head len lines bytes s.part parts h few p, sym (same_framing parts (take len bytes) p) ∙ is_size, s.short);
+}
+
+pub stops_in_head : (old rest : Option (List ℕ)) (bytes : List ℕ) → Keeps old (prepend_known bytes rest) → EndsInHead bytes → StopsIn old rest
+stops_in_head old rest bytes kept h = record { taken = bytes; is_taken = all_taken old rest kept; is_cut = inl h }
+  where
+    all_taken : (old rest : Option (List ℕ)) → Keeps old (prepend_known bytes rest) → Consumes old rest bytes
+    all_taken None rest kept = tt
+    all_taken (Some xs) None kept = absurd kept
+    all_taken (Some xs) (Some ys) kept = sym kept
+
 -- ---- what was read ahead changes nothing
+
+pub kept_stops : (old mid rest : Option (List ℕ)) → Keeps old mid → StopsIn mid rest → StopsIn old rest
+kept_stops old mid rest h s = record { taken = s.taken; is_taken = after_kept old mid rest s.taken h s.is_taken; is_cut = s.is_cut }
 
 kept_gives : (r : Request) (old mid new : Option (List ℕ)) → Keeps old mid → Gives r mid new → Gives r old new
 kept_gives r old mid new h g = record { text = g.text; is_request = g.is_request; taken = after_kept old mid new g.text h g.taken }

@@ -60,7 +60,7 @@ nothing_left : (at : ℕ) (bytes : List ℕ) → at ≡ length bytes → drop at
 nothing_left at bytes h = drop_all at bytes (omega (arith, h))
 
 -- all that is buffered was looked through, and no head ends in it
-in_head : (p : Place) (at : ℕ) (bytes : List ℕ) → Scanned p at bytes → at ≡ length bytes → length bytes < most_head → EndsInHead bytes
+pub in_head : (p : Place) (at : ℕ) (bytes : List ℕ) → Scanned p at bytes → at ≡ length bytes → length bytes < most_head → EndsInHead bytes
 in_head p at bytes h e short =
     let none : head_at bytes ≡ None = alone p at bytes h ∙ ap (head_from p) (nothing_left at bytes e) ∙ none_left p in
     (short, unfinished bytes none)

@@ -25,4 +25,4 @@ abbrev pub IsFrontHead : FrontHead → List ℕ → Option (List ℕ) → Type 0
 IsFrontHead (front.Ends len lines) bytes left = HasHead len lines bytes
 IsFrontHead front.TooLarge bytes left = (most_head ≤ length bytes) × HasNoHead bytes
 IsFrontHead front.Cut bytes left = IfSome left EndsInHead
-IsFrontHead front.Failed bytes left = Unit {0}
+IsFrontHead front.Failed bytes left = EndsInHead bytes

@@ -32,6 +32,12 @@ Gave (took.Bytes n) had has = n + has ≡ had
 Gave took.Ended had has = ⊥
 Gave took.Failed had has = ⊥
 
+-- fewer bytes than this were taken, and `rest` follows them
+pub record IsShort (size : ℕ) (old rest : Option (List ℕ)) : Type 0 where
+  pub part : List ℕ
+  pub is_taken : Consumes old rest part
+  pub short : length part < size
+
 -- the body was consumed, or fewer bytes are left
 abbrev pub IsBody : Body → ℕ → Option (List ℕ) → Option (List ℕ) → Type 0
 IsBody (body.Whole bytes) size old new = (length bytes.items ≡ size) × Consumes old new bytes.items

@@ -66,6 +66,13 @@ pub record IsBad (f : HttpFault) (bytes : Option (List ℕ)) : Type 0 where
 abbrev pub IsEnded : Option (List ℕ) → Type 0
 IsEnded bytes = IfSome bytes IsCut
 
+-- The bytes that were taken end within a head or a body, and `rest` follows them. So a read that failed was asked for: no request
+-- stood whole before it, and no fault.
+pub record StopsIn (old rest : Option (List ℕ)) : Type 0 where
+  pub taken : List ℕ
+  pub is_taken : Consumes old rest taken
+  pub is_cut : IsCut taken
+
 -- what each answer says about the old bytes, except a read fault and lack of memory
 abbrev pub IsNext : NextRequest → Option (List ℕ) → Option (List ℕ) → Type 0
 IsNext (next.Request r) old new = Gives r old new

@@ -46,7 +46,7 @@ pub(crate) enum Body {
 }
 
 impl Buffer {
-    ghost use Rattle.http_front.specs.Inside.{buffered, unread, IsReady, Grows, Gave, IsBody};
+    ghost use Rattle.http_front.specs.Inside.{buffered, unread, IsReady, Grows, Gave, IsBody, IsShort};
 
     /// An empty buffer without memory.
     pub(crate) fn new(alloc: Global) -> Buffer
@@ -150,6 +150,7 @@ impl Buffer {
             (unread self.new taken.new (L.left link.new)) }
         ensures asks { 0 < length (buffered self.old)
             → (link.new ≡ link.old) × Gave result (length (buffered self.old)) (length (buffered self.new)) }
+        ensures none { result ≡ Took.Failed → length (buffered self.new) ≡ 0 }
         ensures within { taken.new ≤ most_link }
         ensures room { vec_len self.new.bytes ≡ vec_len self.old.bytes }
         ensures cause { Counts (L.fault_count link.old) (L.fault_count link.new) (result ≡ Took.Failed) }
@@ -180,6 +181,8 @@ impl Buffer {
         ensures body { IsBody result size (unread self.old taken.old (L.left link.old))
             (unread self.new taken.new (L.left link.new)) }
         ensures asks { (link.new ≡ link.old) ⊎ (length (buffered self.old) < size) }
+        ensures fault { result ≡ Body.Failed
+            → IsShort size (unread self.old taken.old (L.left link.old)) (limited taken.new (L.left link.new)) }
         ensures within { taken.new ≤ most_link }
         ensures cause { Counts (L.fault_count link.old) (L.fault_count link.new) (result ≡ Body.Failed) }
     {

@@ -2,7 +2,8 @@
 ghost use Rattle.std.specs.Prelude.{◌≡◌, ◌⊎◌, ◌≤◌, ◌^◌, [], true, false, IsTrue};
 ghost use Rattle.fleet_ports.specs.Counts.{Counts};
 ghost use Rattle.http_spec.specs.Requests.{IsCut};
-ghost use Rattle.http_front.specs.Next.{unread, IfRequest, IfBad, IfEnded, Gives, IsBad, IsEnded, IsNext, ends_with};
+ghost use Rattle.http_front.specs.Link.{limited};
+ghost use Rattle.http_front.specs.Next.{unread, IfRequest, IfBad, IfEnded, Gives, IsBad, IsEnded, IsNext, StopsIn, ends_with};
 
 use crate::reader::Reader;
 use fleet_ports::Source;
@@ -61,6 +62,8 @@ impl Incoming {
     fn next<L: Source + Drop>(&mut self, link: &mut L) -> NextRequest
         ensures next { IsNext result (unread self.old (L.left link.old)) (unread self.new (L.left link.new)) }
         ensures asks { (link.new ≡ link.old) ⊎ IsCut self.old.ahead }
+        ensures fault { result ≡ NextRequest.ReadFault
+            → StopsIn (unread self.old (L.left link.old)) (limited self.new.taken (L.left link.new)) }
         ensures over { self.new.over ≡ ends_with result }
         ensures cause { Counts (L.fault_count link.old) (L.fault_count link.new) (result ≡ NextRequest.ReadFault) }
     {
@@ -83,8 +86,11 @@ pub fn next_request<L: Source + Drop>(incoming: &mut Incoming, link: &mut L) -> 
     ensures ended { IfEnded result (incoming.old.over ≡ false → IsEnded (unread incoming.old (L.left link.old))) }
     ensures over { incoming.new.over ≡ ends_with result }
 
-    // The link is read only if the bytes read ahead end within a head or a body.
+    // The link is read only if the bytes read ahead end within a head or a body. So do all bytes that were taken before a read that
+    // failed. Any read may fail, so no read is made while a request or a fault stands there.
     ensures asks { (link.new ≡ link.old) ⊎ IsCut incoming.old.ahead }
+    ensures fault { result ≡ NextRequest.ReadFault
+        → StopsIn (unread incoming.old (L.left link.old)) (limited incoming.new.taken (L.left link.new)) }
 
     // Once the connection is over, nothing more is read from it.
     ensures stays { incoming.old.over ≡ true → (result ≡ NextRequest.Ended) × (incoming.new ≡ incoming.old) × (link.new ≡ link.old) }

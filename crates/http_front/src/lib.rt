@@ -14,7 +14,7 @@
 //!
 //! The clauses of [`next_request`]: `request`, `bad`, `ended` and `cause` state these promises. After a closing request, and
 //! after every answer but a request, the connection is over (`over`). Then it is neither read nor changed (`stays`). The link
-//! is read only while the bytes read ahead end inside a head or body (`asks`).
+//! is read only while the bytes taken so far end inside a head or body (`asks`, `fault`).
 //!
 //! Costs: each byte is examined once and moved once or twice. A body goes straight into its own bytes. Fields are copied once
 //! and searched four times. [`write_memory_answer`] takes no memory, and sends the whole answer, or a prefix with a counted

@@ -4,7 +4,8 @@ ghost use Rattle.std.specs.Io.KnownBytes.{Keeps};
 ghost use Rattle.fleet_ports.specs.Counts.{Counts};
 ghost use Rattle.http_spec.specs.Requests.{IsCut};
 ghost use Rattle.http_front.specs.Bodies.{IsOfParts, IsWithBody};
-ghost use Rattle.http_front.specs.Next.{IsNext};
+ghost use Rattle.http_front.specs.Link.{limited};
+ghost use Rattle.http_front.specs.Next.{IsNext, StopsIn};
 ghost use Rattle.http_spec.specs.Limits.{most_lines, most_link};
 
 use crate::buffer::{Body, Buffer};
@@ -40,7 +41,7 @@ pub(crate) struct Reader {
 }
 
 impl Reader {
-    ghost use Rattle.http_front.specs.Inside.{buffered, unread, IsReady};
+    ghost use Rattle.http_front.specs.Inside.{buffered, unread, IsReady, IsShort};
     ghost use Rattle.http_front.specs.Fronts.{IsFrontHead, HasHead, AsksForHead};
 
     /// A reader before the first byte.
@@ -99,6 +100,8 @@ impl Reader {
         ensures next { IsNext result (unread self.old.buffer self.old.taken (L.left link.old))
             (unread self.new.buffer self.new.taken (L.left link.new)) }
         ensures asks { (link.new ≡ link.old) ⊎ IsCut (buffered self.old.buffer) }
+        ensures fault { result ≡ NextRequest.ReadFault
+            → StopsIn (unread self.old.buffer self.old.taken (L.left link.old)) (limited self.new.taken (L.left link.new)) }
         ensures cause { Counts (L.fault_count link.old) (L.fault_count link.new) (result ≡ NextRequest.ReadFault) }
     {
         match read_head(self.alloc, &self.buffer.as_slice()[..len]) {
@@ -128,6 +131,8 @@ impl Reader {
         ensures body { IsWithBody result parts size (unread self.old.buffer self.old.taken (L.left link.old))
             (unread self.new.buffer self.new.taken (L.left link.new)) }
         ensures asks { (link.new ≡ link.old) ⊎ (length (buffered self.old.buffer) < size) }
+        ensures fault { result ≡ NextRequest.ReadFault
+            → IsShort size (unread self.old.buffer self.old.taken (L.left link.old)) (limited self.new.taken (L.left link.new)) }
         ensures cause { Counts (L.fault_count link.old) (L.fault_count link.new) (result ≡ NextRequest.ReadFault) }
     {
         match self
@@ -146,6 +151,8 @@ impl Reader {
         ensures next { IsNext result (unread self.old.buffer self.old.taken (L.left link.old))
             (unread self.new.buffer self.new.taken (L.left link.new)) }
         ensures asks { (link.new ≡ link.old) ⊎ IsCut (buffered self.old.buffer) }
+        ensures fault { result ≡ NextRequest.ReadFault
+            → StopsIn (unread self.old.buffer self.old.taken (L.left link.old)) (limited self.new.taken (L.left link.new)) }
         ensures cause { Counts (L.fault_count link.old) (L.fault_count link.new) (result ≡ NextRequest.ReadFault) }
     {
         match self.buffer.prepare() {

@@ -23,13 +23,13 @@ goes_on_open Failed ends h = cc
 
 -- ---- no answer makes a fault of reading
 
-never_read : (sent : Sent) (ends : Bool) → end_of sent ends ≡ Some ReadFault → ⊥
+pub never_read : (sent : Sent) (ends : Bool) → end_of sent ends ≡ Some ReadFault → ⊥
 never_read Whole true h = cc
 never_read Whole false h = cc
 never_read Memory ends h = cc
 never_read Failed ends h = cc
 
-never_read_behind : (sent : Sent) → end_behind sent ≡ ReadFault → ⊥
+pub never_read_behind : (sent : Sent) → end_behind sent ≡ ReadFault → ⊥
 never_read_behind Whole h = cc
 never_read_behind Memory h = cc
 never_read_behind Failed h = cc

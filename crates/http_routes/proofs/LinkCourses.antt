@@ -1,6 +1,7 @@
 -- The course of a link: what was served so far, and what comes behind it.
-use Rattle.std.proofs.Common.{◌≡◌, ◌∙◌, ℕ, ◌+◌, ◌<◌, ℤ, List, [], length, arith, refl, ap, subst, Bool, Option, Some, None, IfSome}
+use Rattle.std.proofs.Common.{◌≡◌, ◌∙◌, ℕ, ◌+◌, ◌<◌, ℤ, List, [], ◌++◌, length, arith, refl, sym, ap, subst, Bool, Option, Some, None, IfSome, append_assoc}
 use Rattle.std.proofs.lemmas.List.{length-append, length-take}
+use Rattle.std.proofs.KnownBytes.{Consumes-nil, Consumes-trans}
 use Rattle.std.specs.Io.KnownBytes.{prepend_known}
 use Rattle.routes_spec.specs.fleet_ports.Counts.{Counts}
 use Rattle.http_spec.specs.declared.request.Request.{Request}
@@ -16,7 +17,7 @@ use Rattle.routes_spec.specs.table_machine.Table.{Table}
 use Rattle.fleet_rows.specs.declared.submitted.Submitted.{Submitted}
 use Rattle.http_routes.specs.declared.link.LinkEnd.{LinkEnd}
 use Rattle.http_routes.specs.declared.link.LinkEnd.TheVariants.{Closed}
-use Rattle.http_routes.specs.Course.{Outside, Serves, GoesOn, Continues, AreFew, AreFewIfTold}
+use Rattle.http_routes.specs.Course.{Outside, Serves, ServedSoFar, GoesOn, Continues, GoesSoFar, AreFew, AreFewIfTold}
 use Rattle.http_routes.proofs.LinkSteps.{served_more, ended_served}
 use Rattle.http_spec.specs.Limits.{most_link}
 
@@ -98,6 +99,43 @@ module _ {H : Type 0} (Step : Command → Submitted → H → H → Type 0) (w :
       → Continues Step w print now first start held known mid between → Serves Step w print now end known mid new between holds → Serves Step w print now end first start new held holds
   at_end first start held known mid new between holds end before s = before end known new holds (told_or_not first (known ≡ known) refl) s
 
+  -- ---- what was served before reading failed
+
+  pub so_far_first : (first : Option (List ℕ)) (start : Outside H) (held : Option (List ℕ)) → GoesSoFar Step w print now first start held first start held
+  so_far_first first start held = ([], Consumes-nil first, λ bytes new holds s. (s, refl))
+
+  -- a step is one over any bytes that come behind its request
+  goes_over : (bytes : List ℕ) (known left : Option (List ℕ)) (old new : Outside H) (held holds : Option (List ℕ)) (g : GoesOn Step w print now known left old new held holds)
+      → GoesOn Step w print now (Some (g.gives.text ++ bytes)) (Some bytes) old new held holds
+  goes_over bytes known left old new held holds g = record {
+    request = g.request;
+    met = g.met;
+    answer = g.answer;
+    gives = record { text = g.gives.text; is_request = g.gives.is_request; taken = refl };
+    stays = g.stays;
+    given = g.given;
+    moved = g.moved;
+    appended = g.appended;
+  }
+
+  pub so_far_more : (first : Option (List ℕ)) (start : Outside H) (held known left : Option (List ℕ)) (mid new : Outside H) (between holds : Option (List ℕ))
+      → GoesSoFar Step w print now first start held known mid between → GoesOn Step w print now known left mid new between holds → GoesSoFar Step w print now first start held left new holds
+  so_far_more first start held known left mid new between holds (front, gone, before) step = (
+    front ++ step.gives.text,
+    Consumes-trans first known left front step.gives.text gone step.gives.taken,
+    λ bytes final all s.
+        let more =
+        before (step.gives.text ++ bytes) final all
+        (served_more Step w print now Closed (Some (step.gives.text ++ bytes)) (Some bytes) mid new final between holds all (goes_over bytes known left mid new between holds step) s) in
+        subst (λ xs. (t : Serves Step w print now Closed (Some xs) start final held all) × (t.stop ≡ s.stop)) (sym (append_assoc front step.gives.text bytes)) more,
+  )
+
+  pub so_far_last : (first : Option (List ℕ)) (start : Outside H) (held known : Option (List ℕ)) (mid : Outside H) (between rest : Option (List ℕ)) (new : Outside H) (holds : Option (List ℕ))
+      → GoesSoFar Step w print now first start held known mid between → ServedSoFar Step w print now known rest mid new between holds → ServedSoFar Step w print now first rest start new held holds
+  so_far_last first start held known mid between rest new holds (front, gone, before) s =
+      let more = before s.taken new holds s.serves in
+      record { taken = front ++ s.taken; is_taken = Consumes-trans first known rest front s.taken gone s.is_taken; serves = more.0; ended = more.1 ∙ s.ended }
+
   -- no link has more requests than bytes
   pub without_end : (first : Option (List ℕ)) (start : Outside H) (held known : Option (List ℕ)) (mid : Outside H) (between : Option (List ℕ)) (n : ℕ)
       → Continues Step w print now first start held known mid between → AreFewIfTold first n known → most_link < n → Serves Step w print now Closed first start mid held between
@@ -126,6 +164,15 @@ module _ {H : Type 0} (Step : Command → Submitted → H → H → Type 0) (w v
 
     pub ends_so : (end : LinkEnd) → Serves Step v print now end known mid new between holds → Serves Step w print now end first start new held holds
     ends_so end served = at_end Step w print now first start held known mid new between holds end before (subst (λ x. Serves Step x print now end known mid new between holds) same served)
+
+module _ {H : Type 0} (Step : Command → Submitted → H → H → Type 0) (w v : World) (same : v ≡ w) (print : OutRows → List ℕ) (now : ℤ) (first : Option (List ℕ)) (start : Outside H) (held known left : Option (List ℕ)) (mid new : Outside H)
+    (between holds : Option (List ℕ)) (before : GoesSoFar Step w print now first start held known mid between)
+  where
+    pub so_far_then : GoesOn Step v print now known left mid new between holds → GoesSoFar Step w print now first start held left new holds
+    so_far_then step = so_far_more Step w print now first start held known left mid new between holds before (subst (λ x. GoesOn Step x print now known left mid new between holds) same step)
+
+    pub so_far_so : ServedSoFar Step v print now known left mid new between holds → ServedSoFar Step w print now first left start new held holds
+    so_far_so s = so_far_last Step w print now first start held known mid between left new holds before (subst (λ x. ServedSoFar Step x print now known left mid new between holds) same s)
 
 -- ---- counts of faults
 

@@ -14,7 +14,7 @@ use Rattle.httparse.specs.Grammar.{print_blank, print_end}
 use Rattle.http_spec.specs.HeadText.{print_line, HasNoHead}
 use Rattle.http_spec.proofs.Fronts.{still_fault, still_request}
 use Rattle.http_spec.proofs.Links.{some_in}
-use Rattle.http_front.specs.Next.{Gives, IsBad, IsEnded}
+use Rattle.http_front.specs.Next.{Gives, IsBad, IsEnded, StopsIn}
 use Rattle.routes_spec.specs.fleet_rows.declared.command.Command.{Command}
 use Rattle.routes_spec.specs.means_spec.OutRows.{OutRows}
 use Rattle.routes_spec.specs.means_spec.World.{World}
@@ -25,7 +25,7 @@ use Rattle.http_routes.specs.declared.link.LinkEnd.{LinkEnd}
 use Rattle.http_routes.specs.declared.link.LinkEnd.TheVariants.{Closed, ReadFault, WriteFault}
 use Rattle.http_routes.specs.declared.send.Sent.{Sent}
 use Rattle.http_routes.specs.declared.send.Sent.TheVariants.{Whole, Memory, Failed}
-use Rattle.http_routes.specs.Course.{Outside, MovesOutside, IsPart, IsSent, IfFaultAnswer, answer_in, end_behind, end_of, AreKnown, AreWritten, Serves, GoesOn, IsAnswered, IsServedNext}
+use Rattle.http_routes.specs.Course.{Outside, MovesOutside, IsPart, IsSent, IfFaultAnswer, answer_in, end_behind, end_of, AreKnown, AreWritten, Serves, ServedSoFar, GoesOn, IsAnswered, IsServedNext}
 
 -- ---- bytes
 
@@ -38,7 +38,7 @@ rest_is_known : (left : Option (List ℕ)) → AreKnown left (rest_of left)
 rest_is_known None = tt
 rest_is_known (Some bytes) = refl
 
-known_more : (known left : Option (List ℕ)) (text bytes : List ℕ) → Consumes known left text → AreKnown left bytes → AreKnown known (text ++ bytes)
+pub known_more : (known left : Option (List ℕ)) (text bytes : List ℕ) → Consumes known left text → AreKnown left bytes → AreKnown known (text ++ bytes)
 known_more None left text bytes taken is = tt
 known_more (Some xs) None text bytes taken is = absurd taken
 known_more (Some xs) (Some ys) text bytes taken is = ap (λ zs. text ++ zs) is ∙ sym taken
@@ -50,7 +50,7 @@ part_alone : (text : List ℕ) (held holds : Option (List ℕ)) → IsPart text 
 part_alone text held holds h = subst (λ t. IsPart t held holds) (sym (append-nil text)) h
 
 -- what was written before comes in front
-written_more : (end : LinkEnd) (stop : Stop) (front text : List ℕ) (held between holds : Option (List ℕ)) → Appends held between front → AreWritten end stop text between holds
+pub written_more : (end : LinkEnd) (stop : Stop) (front text : List ℕ) (held between holds : Option (List ℕ)) → Appends held between front → AreWritten end stop text between holds
     → AreWritten end stop (front ++ text) held holds
 written_more Closed stop front text held between holds first (is, behind) = (is, Appends-trans held between holds front text first behind)
 written_more ReadFault stop front text held between holds first (is, behind) = (is, Appends-trans held between holds front text first behind)
@@ -75,7 +75,7 @@ no_bytes_are_cut = inl (omega arith, no_head)
 module _ {H : Type 0} (Step : Command → Submitted → H → H → Type 0) (w : World) (print : OutRows → List ℕ) (now : ℤ) where
   -- ---- a request more
 
-  pub served_more : (end : LinkEnd) (known left : Option (List ℕ)) (old mid new : Outside H) (held between holds : Option (List ℕ))
+  abbrev pub served_more : (end : LinkEnd) (known left : Option (List ℕ)) (old mid new : Outside H) (held between holds : Option (List ℕ))
       → GoesOn Step w print now known left old mid held between → Serves Step w print now end left mid new between holds → Serves Step w print now end known old new held holds
   served_more end known left old mid new held between holds first behind = record {
     bytes = first.gives.text ++ behind.bytes;
@@ -155,6 +155,26 @@ module _ {H : Type 0} (Step : Command → Submitted → H → H → Type 0) (w :
     request_served Failed (Ok a) (met, moved, given) (inl part) = part_sent r.ends met a refl moved given part
     request_served Failed (Ok a) (met, moved, given) (inr part) = memory_part met moved (inl (a, given.is_answer)) part
     request_served Failed (Err e) (met, moved, before) part = memory_part met moved before part
+
+  -- ---- reading failed behind bytes that end within a request
+
+  pub stopped_served : (known rest : Option (List ℕ)) (old : Outside H) (held holds : Option (List ℕ)) → holds ≡ held → StopsIn known rest → ServedSoFar Step w print now known rest old old held holds
+  stopped_served known rest old held holds same s = record {
+    taken = s.taken;
+    is_taken = s.is_taken;
+    serves = record {
+      bytes = s.taken;
+      requests = [];
+      stop = whole ended;
+      mets = [];
+      answers = [];
+      are_known = refl;
+      answered = (s.is_cut, refl, refl);
+      moved = refl;
+      written_are = (tt, subst (λ h. Appends held h []) (sym same) (Appends-nil held));
+    };
+    ended = refl;
+  }
 
   -- ---- no further request
 

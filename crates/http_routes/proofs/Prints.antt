@@ -28,7 +28,8 @@ use Rattle.routes_spec.specs.Queries.{Question}
 use Rattle.routes_spec.specs.Routes.{route_at, path_of, takes_method}
 use Rattle.fleet_rows.specs.declared.submitted.Submitted.{Submitted}
 use Rattle.http_routes.specs.declared.link.LinkEnd.{LinkEnd}
-use Rattle.http_routes.specs.Course.{Outside, Serves}
+use Rattle.http_routes.specs.declared.link.LinkEnd.TheVariants.{Closed}
+use Rattle.http_routes.specs.Course.{Outside, Serves, ServedSoFar}
 
 module _ (w : World) (print other : OutRows → List ℕ) (alike : (q : Level) (p : Paging) → print (page p (means w q)) ≡ other (page p (means w q))) where
   module _ (ends : Bool) where
@@ -78,7 +79,7 @@ module _ (w : World) (print other : OutRows → List ℕ) (alike : (q : Level) (
     before_alike r met (inl (a, h)) = inl (a, answer_alike r met a h)
     before_alike r met (inr h) = inr h
 
-    link_alike : (bytes : List ℕ) (requests : List Request) (stop : Stop) (mets : List Met) (answers : List Answer) → AreAnswered w print now bytes requests stop mets answers
+    pub link_alike : (bytes : List ℕ) (requests : List Request) (stop : Stop) (mets : List Met) (answers : List Answer) → AreAnswered w print now bytes requests stop mets answers
         → AreAnswered w other now bytes requests stop mets answers
     link_alike bytes [] stop mets answers h = h
     link_alike bytes (r ∷ requests) stop [] answers h = absurd h
@@ -89,7 +90,7 @@ module _ (w : World) (print other : OutRows → List ℕ) (alike : (q : Level) (
     link_alike bytes (r ∷ requests) stop (m ∷ mets) (a ∷ answers) (after, begins, inr (cut, no_requests, stop_is, no_mets, no_answers)) =
         (after, begins, inr (record { met_before = before_alike r m cut.met_before; no_memory = cut.no_memory }, no_requests, stop_is, no_mets, no_answers))
 
-    pub served_alike : {H : Type 0} (Step : Command → Submitted → H → H → Type 0) (end : LinkEnd) (known : Option (List ℕ)) (old new : Outside H) (held holds : Option (List ℕ)) → Serves Step w print now end known old new held holds
+    abbrev pub served_alike : {H : Type 0} (Step : Command → Submitted → H → H → Type 0) (end : LinkEnd) (known : Option (List ℕ)) (old new : Outside H) (held holds : Option (List ℕ)) → Serves Step w print now end known old new held holds
         → Serves Step w other now end known old new held holds
     served_alike Step end known old new held holds s = record {
       bytes = s.bytes;
@@ -103,6 +104,11 @@ module _ (w : World) (print other : OutRows → List ℕ) (alike : (q : Level) (
       written_are = s.written_are;
     }
 
+    pub so_far_alike : {H : Type 0} (Step : Command → Submitted → H → H → Type 0) (known rest : Option (List ℕ)) (old new : Outside H) (held holds : Option (List ℕ)) → ServedSoFar Step w print now known rest old new held holds
+        → ServedSoFar Step w other now known rest old new held holds
+    so_far_alike Step known rest old new held holds s =
+        record { taken = s.taken; is_taken = s.is_taken; serves = served_alike Step Closed (Some s.taken) old new held holds s.serves; ended = s.ended }
+
 -- over the tables of a history
 pub history_served : {H : Type 0} (Step : Command → Submitted → H → H → Type 0) (table : Table) (history : Trace) (says : List ℕ → List ℕ → Bool) (now : ℤ) (end : LinkEnd) (known : Option (List ℕ)) (old new : Outside H) (held holds : Option (List ℕ))
     → Stands table history → Serves Step (world_of table says) written_text now end known old new held holds → Serves Step (spec.world_of table.ttls history says) lines_text now end known old new held holds
@@ -111,3 +117,11 @@ history_served Step table history says now end known old new held holds s h =
     served_alike w written_text lines_text
     (λ q p. rows_text_is (page p (means w q)) (pages_can_be_printed p (means w q) (rows_can_be_printed table.ttls history says s.0 q))) now Step end known old new held holds
     (subst (λ v. Serves Step v written_text now end known old new held holds) (world_is table history says s) h)
+
+pub history_so_far : {H : Type 0} (Step : Command → Submitted → H → H → Type 0) (table : Table) (history : Trace) (says : List ℕ → List ℕ → Bool) (now : ℤ) (known rest : Option (List ℕ)) (old new : Outside H) (held holds : Option (List ℕ))
+    → Stands table history → ServedSoFar Step (world_of table says) written_text now known rest old new held holds → ServedSoFar Step (spec.world_of table.ttls history says) lines_text now known rest old new held holds
+history_so_far Step table history says now known rest old new held holds s h =
+    let w = spec.world_of table.ttls history says in
+    so_far_alike w written_text lines_text
+    (λ q p. rows_text_is (page p (means w q)) (pages_can_be_printed p (means w q) (rows_can_be_printed table.ttls history says s.0 q))) now Step known rest old new held holds
+    (subst (λ v. ServedSoFar Step v written_text now known rest old new held holds) (world_is table history says s) h)

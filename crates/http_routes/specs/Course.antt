@@ -1,10 +1,11 @@
 -- What is served on a connection, as far as its bytes are known.
-use Rattle.std.specs.Prelude.{◌≡◌, ◌⊎◌, ◌<◌, ◌≤◌, ◌+◌, ℕ, ℤ, List, [], ◌∷◌, length, take, Bool, false, if◌then◌else◌, Option, Some, None, IfSome, Result, Ok, Err}
-use Rattle.std.specs.Io.KnownBytes.{Appends}
+use Rattle.std.specs.Prelude.{◌≡◌, ◌⊎◌, ◌<◌, ◌≤◌, ◌+◌, ℕ, ℤ, List, [], ◌∷◌, ◌++◌, length, take, Bool, false, if◌then◌else◌, Option, Some, None, IfSome, Result, Ok, Err}
+use Rattle.std.specs.Io.KnownBytes.{Appends, Consumes}
 use Rattle.http_spec.specs.declared.answer.Answer.{Answer}
 use Rattle.http_spec.specs.declared.request.Request.{Request}
 use Rattle.http_spec.specs.declared.request.HttpFault.{HttpFault}
 use Rattle.http_spec.specs.Answers.{answer_text, fault_answer, memory_answer}
+use Rattle.http_spec.specs.Requests.{ended}
 use Rattle.http_front.specs.Next.{Gives}
 use Rattle.routes_spec.specs.means_spec.OutRows.{OutRows}
 use Rattle.routes_spec.specs.means_spec.World.{World}
@@ -106,6 +107,14 @@ module _ {H : Type 0} (Step : Command → Submitted → H → H → Type 0) (w :
     pub moved : AllMove Step mets old new
     pub written_are : AreWritten end stop (written answers) held holds
 
+  -- Reading failed behind the bytes that were taken; `rest` was left. What they hold was served as if the connection ended with
+  -- them: each request was answered, and the answers were written. Any read may fail, so none was made before that.
+  pub record ServedSoFar (known rest : Option (List ℕ)) (old new : Outside H) (held holds : Option (List ℕ)) : Type 0 where
+    pub taken : List ℕ
+    pub is_taken : Consumes known rest taken
+    pub serves : Serves Closed (Some taken) old new held holds
+    pub ended : serves.stop ≡ whole ended
+
   -- the request was answered; without memory, the outside state changed as for some answer
   abbrev pub IsAnswered : {E : Type 0} → Request → Outside H → Outside H → Result Answer E → Type 0
   IsAnswered request old new (Ok answer) = (met : Met) × MovesOutside Step met old new × IsGiven w print now request met answer
@@ -132,6 +141,14 @@ module _ {H : Type 0} (Step : Command → Submitted → H → H → Type 0) (w :
   Continues first start held known mid between =
       (end : LinkEnd) (left : Option (List ℕ)) (new : Outside H) (holds : Option (List ℕ)) → IfSome first (λ (_ : List ℕ). left ≡ known)
       → Serves end left mid new between holds → Serves end first start new held holds
+
+  -- The requests so far have some bytes, with which the first ones begin. What is served of any bytes from here on is served of
+  -- these and those, and ends in the same way.
+  abbrev pub GoesSoFar : Option (List ℕ) → Outside H → Option (List ℕ) → Option (List ℕ) → Outside H → Option (List ℕ) → Type 0
+  GoesSoFar first start held known mid between =
+      (front : List ℕ) × Consumes first known front
+      × ((bytes : List ℕ) (new : Outside H) (holds : Option (List ℕ)) → (s : Serves Closed (Some bytes) mid new between holds)
+      → (t : Serves Closed (Some (front ++ bytes)) start new held holds) × (t.stop ≡ s.stop))
 
 -- n requests were read, and n plus the number of bytes left is within the limit
 abbrev pub AreFew : ℕ → Option (List ℕ) → Type 0

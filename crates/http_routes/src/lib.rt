@@ -8,6 +8,7 @@
 //! What the contract promises:
 //! - At Closed all answers were written, at WriteFault a prefix of them (`served`, `stands`). A submitted command was received
 //!   at `now`. After the answer for missing memory no request is answered.
+//! - Every request is answered before more is read: no read is made while a request stands there whole (`so_far`).
 //! - The tables stay (`shown`), and so does what patterns match (`same`). Each half counts its fault (`reads`, `writes`). If a
 //!   connection doesn't tell its bytes, this holds for some bytes.
 //!

@@ -15,7 +15,7 @@ ghost use Rattle.routes_spec.specs.Reading.{IsReadOn};
 ghost use Rattle.routes_spec.specs.Routes.{path_of, route_at, takes_method};
 ghost use Rattle.http_routes.specs.Inbox.{Takes};
 ghost use Rattle.http_routes.specs.Moves.{Moves, Answers};
-ghost use Rattle.http_routes.specs.Course.{outside, end_behind, end_of, IsAnswered, IsServedNext, Serves};
+ghost use Rattle.http_routes.specs.Course.{outside, end_behind, end_of, IsAnswered, IsServedNext, Serves, ServedSoFar};
 ghost use Rattle.json_tree.specs.Limits.{most_payload};
 
 use crate::answers::error;
@@ -150,6 +150,12 @@ fn serve_next<I: Inbox + Drop, S: Source + Drop, K: Sink + Drop, P: Patterns + D
         (outside inbox.old (P.asked patterns.old) (P.refusals patterns.old))
         (outside inbox.new (P.asked patterns.new) (P.refusals patterns.new))
         (K.held link.old.outgoing) (K.held link.new.outgoing) }
+    ensures so_far { result ≡ Some LinkEnd.ReadFault
+        → ServedSoFar (Takes I.held I.does) (world_of (I.shown inbox.old) (P.says patterns.old)) written_text now
+        (unread reading.old (S.left link.old.incoming)) (limited reading.new.taken (S.left link.new.incoming))
+        (outside inbox.old (P.asked patterns.old) (P.refusals patterns.old))
+        (outside inbox.new (P.asked patterns.new) (P.refusals patterns.new))
+        (K.held link.old.outgoing) (K.held link.new.outgoing) }
     ensures ongoing { result ≡ None → reading.new.over ≡ false }
     ensures reads { Counts (S.fault_count link.old.incoming) (S.fault_count link.new.incoming) (result ≡ Some LinkEnd.ReadFault) }
     ensures writes { Counts (K.fault_count link.old.outgoing) (K.fault_count link.new.outgoing) (result ≡ Some LinkEnd.WriteFault) }
@@ -186,6 +192,15 @@ pub fn serve_link<I: Inbox + Drop, S: Source + Drop, K: Sink + Drop, P: Patterns
     // the one that ends the connection. This holds for the tables as they are, and for each history that they stand for.
     ensures served { Serves (Takes I.held I.does) (world_of (I.shown inbox.old) (P.says patterns.old)) written_text now result
         (limited 0 (S.left link.old.incoming))
+        (outside inbox.old (P.asked patterns.old) (P.refusals patterns.old))
+        (outside inbox.new (P.asked patterns.new) (P.refusals patterns.new))
+        (K.held link.old.outgoing) (K.held link.new.outgoing) }
+
+    // Before each read, all requests that were taken whole are answered, and the answers written: at `ReadFault` the connection was
+    // served as one that ends with the bytes that were taken. Any read may fail.
+    ensures so_far { result ≡ LinkEnd.ReadFault
+        → (taken : ℕ) × ServedSoFar (Takes I.held I.does) (world_of (I.shown inbox.old) (P.says patterns.old)) written_text now
+        (limited 0 (S.left link.old.incoming)) (limited taken (S.left link.new.incoming))
         (outside inbox.old (P.asked patterns.old) (P.refusals patterns.old))
         (outside inbox.new (P.asked patterns.new) (P.refusals patterns.new))
         (K.held link.old.outgoing) (K.held link.new.outgoing) }

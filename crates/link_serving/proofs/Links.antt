@@ -13,7 +13,7 @@ use Rattle.http_routes.specs.query_plain.Tables.{world_of}
 use Rattle.http_routes.specs.paging_text.Shown.{written_text}
 use Rattle.http_routes.specs.http_front.Link.{limited}
 use Rattle.http_routes.specs.Course.{Outside}
-use Rattle.http_routes.proofs.Prints.{history_served}
+use Rattle.http_routes.proofs.Prints.{history_served, history_so_far}
 use Rattle.front_port.specs.Links.{Given, IsLast}
 use Rattle.link_serving.specs.declared.end.ServeEnd.{ServeEnd}
 use Rattle.link_serving.specs.declared.end.ServeEnd.TheVariants.{Done, FrontFault}
@@ -90,6 +90,9 @@ module _ {H : Type 0} (Step : Command → Submitted → H → H → Type 0) (tab
     end = first.end;
     ends = first.ends;
     serves = history_served Step table history says now first.end (limited 0 first.comes) old new first.held link.held stands first.serves;
+    so_far = λ failed.
+        let taken = first.so_far failed in
+        (taken.0, history_so_far Step table history says now (limited 0 first.comes) (limited taken.0 link.left) old new first.held link.held stands taken.1);
   }
 
   served_stands : (links : List Given) (left rest : Option (List (List ℕ))) (old new : Outside H) → AreServed Step (world_of table says) written_text now left rest links old new

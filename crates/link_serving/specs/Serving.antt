@@ -7,7 +7,7 @@ use Rattle.http_routes.specs.means_spec.World.{World}
 use Rattle.http_routes.specs.http_front.Link.{limited}
 use Rattle.http_routes.specs.declared.link.LinkEnd.{LinkEnd}
 use Rattle.http_routes.specs.declared.link.LinkEnd.TheVariants as link_end
-use Rattle.http_routes.specs.Course.{Outside, Serves}
+use Rattle.http_routes.specs.Course.{Outside, Serves, ServedSoFar}
 use Rattle.front_port.specs.Links.{Given, HandsOut, IsLast}
 use Rattle.link_serving.specs.declared.end.ServeEnd.{ServeEnd}
 use Rattle.link_serving.specs.declared.end.ServeEnd.TheVariants.{Done, FrontFault}
@@ -34,7 +34,8 @@ EndsServing Done limit served left = ((length served ≡ limit) ⊎ IsLast left)
 EndsServing FrontFault limit served left = length served < limit
 
 module _ {H : Type 0} (Step : Command → Submitted → H → H → Type 0) (w : World) (print : OutRows → List ℕ) (now : ℤ) where
-  -- The first remaining connection was handed out, and served until it ended.
+  -- The first remaining connection was handed out, and served until it ended: if reading failed, as one that ends with the bytes
+  -- that were taken.
   pub record ServesFirst (left rest : Option (List (List ℕ))) (link : Given) (old new : Outside H) : Type 0 where
     pub comes : Option (List ℕ)  -- the bytes that it brings, if they are known
     pub held : Option (List ℕ)  -- the bytes sent before: none, if they are known
@@ -42,6 +43,7 @@ module _ {H : Type 0} (Step : Command → Submitted → H → H → Type 0) (w :
     pub end : LinkEnd
     pub ends : EndsBy end link
     pub serves : Serves Step w print now end (limited 0 comes) old new held link.held
+    pub so_far : end ≡ link_end.ReadFault → (taken : ℕ) × ServedSoFar Step w print now (limited 0 comes) (limited taken link.left) old new held link.held
 
   -- These connections were served, one after the other.
   abbrev pub AreServed : Option (List (List ℕ)) → Option (List (List ℕ)) → List Given → Outside H → Outside H → Type 0

@@ -4,9 +4,9 @@ use Rattle.http_front.specs.Next.{unread}
 use Rattle.paging_text.specs.Shown.{written_text}
 use Rattle.query_plain.specs.Tables.{world_of}
 use Rattle.http_routes.specs.Inbox.{Takes}
-use Rattle.http_routes.specs.Course.{outside, Continues, AreFewIfTold}
+use Rattle.http_routes.specs.Course.{outside, Continues, GoesSoFar, AreFewIfTold}
 use Rattle.http_routes.specs.declared.link.LinkEnd.TheVariants.{Closed}
-use Rattle.http_routes.proofs.LinkCourses.{unread_at_first, from_first, few_at_first, same_world, goes_more, ends_so, still_few, without_end, counts_from, counts_none}
+use Rattle.http_routes.proofs.LinkCourses.{unread_at_first, from_first, few_at_first, same_world, goes_more, ends_so, still_few, so_far_first, so_far_then, so_far_so, without_end, counts_from, counts_none}
 use Rattle.http_routes.proofs.Prints.{history_served}
 use Rattle.http_routes.proofs.link.serve_link.Goals as goal
 use Rattle.http_spec.specs.Limits.{most_link}
@@ -23,6 +23,7 @@ serving-init g c =
     let at_first = unread_at_first c.new-reading.result left c.new-reading.ensures.ahead c.new-reading.ensures.taken in
     record {
       goes = subst (λ k. Continues (Takes g.I.Inbox.held g.I.Inbox.does) w written_text c.args.now (limited 0 left) start held k start held) (sym at_first) (from_first (Takes g.I.Inbox.held g.I.Inbox.does) w written_text c.args.now (limited 0 left) start held);
+      so_far = subst (λ k. GoesSoFar (Takes g.I.Inbox.held g.I.Inbox.does) w written_text c.args.now (limited 0 left) start held k start held) (sym at_first) (so_far_first (Takes g.I.Inbox.held g.I.Inbox.does) w written_text c.args.now (limited 0 left) start held);
       few = subst (λ k. AreFewIfTold (limited 0 left) 0 k) (sym at_first) (few_at_first left);
       shown = refl;
       same = λ p t. refl;
@@ -49,6 +50,7 @@ serving-preserved g c =
     let holds = g.K.Sink.held c.serve_next.new.link.outgoing in
     record {
       goes = goes_more (Takes g.I.Inbox.held g.I.Inbox.does) w v same written_text c.args.now first start held known left mid new between holds was.goes says.served;
+      so_far = so_far_then (Takes g.I.Inbox.held g.I.Inbox.does) w v same written_text c.args.now first start held known left mid new between holds was.so_far says.served;
       few = still_few says.served.request c.serving._served first known left says.served.gives was.few;
       shown = says.shown ∙ was.shown;
       same = λ p t. says.same p t ∙ was.same p t;
@@ -78,6 +80,23 @@ returns-in-Some-clause-served g c =
     let between = g.K.Sink.held c.serving.link.outgoing in
     let holds = g.K.Sink.held c.serve_next.new.link.outgoing in
     ends_so (Takes g.I.Inbox.held g.I.Inbox.does) w v same written_text c.args.now first start held known known mid new between holds was.goes c.in-Some.«end» c.in-Some.ensures.served
+
+pub returns-in-Some-clause-so_far : goal.returns-in-Some-clause-so_far
+returns-in-Some-clause-so_far g c = λ h.
+    let was = c.serving.invariant in
+    let w = world_of (g.I.Inbox.shown c.args.inbox.now) (g.P.Patterns.says c.args.patterns.now) in
+    let v = world_of (g.I.Inbox.shown c.serving.inbox) (g.P.Patterns.says c.serving.patterns) in
+    let same : v ≡ w = same_world (g.I.Inbox.shown c.serving.inbox) (g.I.Inbox.shown c.args.inbox.now) (g.P.Patterns.says c.serving.patterns) (g.P.Patterns.says c.args.patterns.now) was.shown was.same in
+    let first = limited 0 (g.S.Source.left c.args.link.now.incoming) in
+    let start = outside c.args.inbox.now (g.P.Patterns.asked c.args.patterns.now) (g.P.Patterns.refusals c.args.patterns.now) in
+    let held = g.K.Sink.held c.args.link.now.outgoing in
+    let known = unread c.serving.reading (g.S.Source.left c.serving.link.incoming) in
+    let rest = limited c.serve_next.new.reading.taken (g.S.Source.left c.serve_next.new.link.incoming) in
+    let mid = outside c.serving.inbox (g.P.Patterns.asked c.serving.patterns) (g.P.Patterns.refusals c.serving.patterns) in
+    let new = outside c.serve_next.new.inbox (g.P.Patterns.asked c.serve_next.new.patterns) (g.P.Patterns.refusals c.serve_next.new.patterns) in
+    let between = g.K.Sink.held c.serving.link.outgoing in
+    let holds = g.K.Sink.held c.serve_next.new.link.outgoing in
+    (c.serve_next.new.reading.taken, so_far_so (Takes g.I.Inbox.held g.I.Inbox.does) w v same written_text c.args.now first start held known rest mid new between holds was.so_far (c.in-Some.ensures.so_far (ap Some h)))
 
 pub returns-in-Some-clause-stands : goal.returns-in-Some-clause-stands
 returns-in-Some-clause-stands g c = λ history stands.

@@ -5,13 +5,18 @@ use Rattle.http_front.specs.Next.{unread}
 use Rattle.paging_text.specs.Shown.{written_text}
 use Rattle.query_plain.specs.Tables.{world_of}
 use Rattle.http_routes.specs.Inbox.{Takes}
-use Rattle.http_routes.specs.Course.{outside, Continues, AreFewIfTold}
+use Rattle.http_routes.specs.Course.{outside, Continues, GoesSoFar, AreFewIfTold}
 use Rattle.http_routes.proofs.link.serve_link.Given as goal
 
 abbrev pub invariant-serving : goal.invariant-serving
 invariant-serving g l = record {
   goes :
       Continues (Takes g.I.Inbox.held g.I.Inbox.does) (world_of (g.I.Inbox.shown l.fn.inbox) (g.P.Patterns.says l.fn.patterns)) written_text l.now (limited 0 (g.S.Source.left l.fn.link.incoming))
+      (outside l.fn.inbox (g.P.Patterns.asked l.fn.patterns) (g.P.Patterns.refusals l.fn.patterns)) (g.K.Sink.held l.fn.link.outgoing)
+      (unread l.reading (g.S.Source.left l.link.incoming))
+      (outside l.inbox (g.P.Patterns.asked l.patterns) (g.P.Patterns.refusals l.patterns)) (g.K.Sink.held l.link.outgoing);
+  so_far :
+      GoesSoFar (Takes g.I.Inbox.held g.I.Inbox.does) (world_of (g.I.Inbox.shown l.fn.inbox) (g.P.Patterns.says l.fn.patterns)) written_text l.now (limited 0 (g.S.Source.left l.fn.link.incoming))
       (outside l.fn.inbox (g.P.Patterns.asked l.fn.patterns) (g.P.Patterns.refusals l.fn.patterns)) (g.K.Sink.held l.fn.link.outgoing)
       (unread l.reading (g.S.Source.left l.link.incoming))
       (outside l.inbox (g.P.Patterns.asked l.patterns) (g.P.Patterns.refusals l.patterns)) (g.K.Sink.held l.link.outgoing);

@@ -1,12 +1,15 @@
 use Rattle.std.proofs.Common.{sym, subst, refl, ◌∙◌}
+use Rattle.http_front.specs.Link.{limited}
 use Rattle.http_front.specs.Next.{unread}
 use Rattle.paging_text.specs.Shown.{written_text}
 use Rattle.query_plain.specs.Tables.{world_of}
 use Rattle.http_routes.specs.Inbox.{Takes}
 use Rattle.http_routes.specs.Course.{outside, IsServedNext, Serves}
+use Rattle.http_routes.specs.declared.link.LinkEnd.TheVariants.{ReadFault}
+use Rattle.routes_spec.proofs.of_plain_laws.Options.{some_is}
 use Rattle.http_routes.proofs.Answering.{body_is_small}
-use Rattle.http_routes.proofs.Ends.{goes_on_open, reads_on, writes_on, reads_behind, writes_behind, fault_told}
-use Rattle.http_routes.proofs.LinkSteps.{request_served, bad_served, ended_served, unread_served, memory_served}
+use Rattle.http_routes.proofs.Ends.{goes_on_open, never_read, never_read_behind, reads_on, writes_on, reads_behind, writes_behind, fault_told}
+use Rattle.http_routes.proofs.LinkSteps.{request_served, bad_served, ended_served, unread_served, stopped_served, memory_served}
 use Rattle.http_routes.proofs.link.serve_next.Goals as goal
 
 pub answered-answer-requires : goal.answered-answer-requires
@@ -94,3 +97,23 @@ returns-in-Memory-clause-reads g c =
 pub returns-in-Memory-clause-writes : goal.returns-in-Memory-clause-writes
 returns-in-Memory-clause-writes g c =
     writes_behind (g.K.Sink.fault_count c.args.link.now.outgoing) (g.K.Sink.fault_count c.send_memory.new.outgoing) c.send_memory.result c.end_behind-in-Memory.result c.end_behind-in-Memory.ensures c.send_memory.ensures.cause
+
+-- ---- what was served before reading failed
+
+pub returns-in-Request-clause-so_far : goal.returns-in-Request-clause-so_far
+returns-in-Request-clause-so_far g c = λ h. absurd (never_read c.send.result c.in-Request.request.ends (sym c.end_of.ensures ∙ h))
+
+pub returns-in-Bad-clause-so_far : goal.returns-in-Bad-clause-so_far
+returns-in-Bad-clause-so_far g c = λ h. absurd (never_read_behind c.send-in-Bad.result (sym c.end_behind.ensures ∙ some_is c.end_behind.result ReadFault h))
+
+pub returns-in-Memory-clause-so_far : goal.returns-in-Memory-clause-so_far
+returns-in-Memory-clause-so_far g c = λ h. absurd (never_read_behind c.send_memory.result (sym c.end_behind-in-Memory.ensures ∙ some_is c.end_behind-in-Memory.result ReadFault h))
+
+pub returns-in-ReadFault-clause-so_far : goal.returns-in-ReadFault-clause-so_far
+returns-in-ReadFault-clause-so_far g c = λ _.
+    let w = world_of (g.I.Inbox.shown c.args.inbox.now) (g.P.Patterns.says c.args.patterns.now) in
+    let known = unread c.args.reading.now (g.S.Source.left c.args.link.now.incoming) in
+    let rest = limited c.next_request.new.incoming.taken (g.S.Source.left c.next_request.new.link) in
+    let old = outside c.args.inbox.now (g.P.Patterns.asked c.args.patterns.now) (g.P.Patterns.refusals c.args.patterns.now) in
+    let held = g.K.Sink.held c.args.link.now.outgoing in
+    stopped_served (Takes g.I.Inbox.held g.I.Inbox.does) w written_text c.args.now known rest old held held refl (c.in-ReadFault.ensures.fault refl)

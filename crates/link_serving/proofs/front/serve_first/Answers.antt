@@ -34,5 +34,6 @@ returns-in-Link-clause-served g c =
           ends_by link (g.F.Incoming.Source.fault_count c.in-Link.link.incoming) (g.F.Outgoing.Sink.fault_count c.in-Link.link.outgoing) c.in-Link.ensures.calm.0 c.in-Link.ensures.calm.1
           c.serve_link-end.result c.serve_link-end.ensures.reads c.serve_link-end.ensures.writes;
       serves = c.serve_link-end.ensures.served;
+      so_far = c.serve_link-end.ensures.so_far;
     })
     c.give_back.ensures.left c.in-Link.ensures.counted c.give_back.ensures.handed_out c.in-Link.ensures.given_back c.give_back.ensures.given_back

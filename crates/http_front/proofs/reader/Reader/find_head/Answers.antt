@@ -3,7 +3,7 @@ use Rattle.std.proofs.KnownBytes.{Keeps-trans}
 use Rattle.http_front.specs.Inside.{buffered}
 use Rattle.http_front.specs.Scans.{place_of, HasScanned}
 use Rattle.http_front.specs.Fronts.{HasHead}
-use Rattle.http_front.proofs.Scans.{still_scanned, has_head, no_head_in_reach, no_head_to_end, ends_in_head}
+use Rattle.http_front.proofs.Scans.{still_scanned, has_head, no_head_in_reach, no_head_to_end, in_head, ends_in_head}
 use Rattle.http_front.proofs.reader.Reader.find_head.Goals as goal
 
 pub returns-in-Some-clause-head : goal.returns-in-Some-clause-head
@@ -30,6 +30,14 @@ returns-in-Ended-clause-head g c =
     let scanned = subst (HasScanned c.run.new.self) same run.scanned in
     let all : c.run.new.self.at ≡ length (buffered c.refill.new.self) = omega (arith, run.looked, ap length same) in
     no_head_to_end (place_of c.run.new.self) c.run.new.self.at (buffered c.refill.new.self) _ scanned all (omega (arith, all)) (c.in-Ended.ensures.end (grind arith))
+
+pub returns-in-Failed-clause-head : goal.returns-in-Failed-clause-head
+returns-in-Failed-clause-head g c =
+    let run = c.in-None.ensures in
+    let same = c.as_slice.ensures ∙ sym c.in-Failed.ensures.grows in
+    let scanned = subst (HasScanned c.run.new.self) same run.scanned in
+    let all : c.run.new.self.at ≡ length (buffered c.refill.new.self) = omega (arith, run.looked, ap length same) in
+    in_head (place_of c.run.new.self) c.run.new.self.at (buffered c.refill.new.self) scanned all (omega (arith, all))
 
 pub returns-in-Ended-clause-asks : goal.returns-in-Ended-clause-asks
 returns-in-Ended-clause-asks g c =
