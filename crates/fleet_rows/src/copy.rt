@@ -120,7 +120,7 @@ pub fn copy_expiration(
 fn copy_edges(alloc: Global, list: &[Edge]) -> Result<Edges, AllocError>
     ensures { IfOk result (λ copied. copied ≡ list.now) }
 {
-    let mut copied = Edges::new(alloc);
+    let mut copied = Edges::with_capacity(alloc, list.len())?;
     for edge in list {
         copied.push(copy_edge(alloc, edge)?)?;
     }
@@ -149,7 +149,7 @@ fn copy_name(alloc: Global, name: &ResourceName) -> Result<ResourceName, AllocEr
 fn copy_resources(alloc: Global, list: &[Resource]) -> Result<Resources, AllocError>
     ensures { IfOk result (λ copied. copied ≡ list.now) }
 {
-    let mut copied = Resources::new(alloc);
+    let mut copied = Resources::with_capacity(alloc, list.len())?;
     for resource in list {
         copied.push(copy_resource(alloc, resource)?)?;
     }
@@ -173,7 +173,7 @@ fn copy_resource(alloc: Global, resource: &Resource) -> Result<Resource, AllocEr
 fn copy_names(alloc: Global, list: &[Text]) -> Result<Names, AllocError>
     ensures { IfOk result (λ copied. copied ≡ list.now) }
 {
-    let mut copied = Names::new(alloc);
+    let mut copied = Names::with_capacity(alloc, list.len())?;
     for name in list {
         copied.push(copy_text(alloc, name)?)?;
     }

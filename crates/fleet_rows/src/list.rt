@@ -1,5 +1,5 @@
 //! Lists of a catalog's texts, resources and edges. Contracts see each as a list.
-ghost use Rattle.std.specs.Prelude.{◌≡◌, [], ◌∷◌, ◌++◌, OnOk, OnErr};
+ghost use Rattle.std.specs.Prelude.{◌≡◌, [], ◌∷◌, ◌++◌, IfOk, OnOk, OnErr};
 
 use crate::catalog::{Edge, Resource};
 use json_tree::Text;
@@ -28,6 +28,15 @@ impl Names {
         Names {
             list: Vec::new(alloc),
         }
+    }
+
+    /// An empty list with room for this many texts, so that a list of just as many has no room to spare.
+    pub fn with_capacity(alloc: Global, capacity: usize) -> Result<Names, AllocError>
+        ensures { IfOk result (λ a. a ≡ []) }
+    {
+        Ok(Names {
+            list: Vec::with_capacity(alloc, capacity)?,
+        })
     }
 
     /// Appends a text. If memory runs out, the text is dropped and the list is unchanged.
@@ -77,6 +86,15 @@ impl Resources {
         }
     }
 
+    /// An empty list with room for this many resources, so that a list of just as many has no room to spare.
+    pub fn with_capacity(alloc: Global, capacity: usize) -> Result<Resources, AllocError>
+        ensures { IfOk result (λ a. a ≡ []) }
+    {
+        Ok(Resources {
+            list: Vec::with_capacity(alloc, capacity)?,
+        })
+    }
+
     /// Appends a resource. If memory runs out, the resource is dropped and the list is unchanged.
     pub fn push(&mut self, resource: Resource) -> Result<(), AllocError>
         ensures ok { OnOk result (self.new ≡ self.old ++ resource ∷ []) }
@@ -117,6 +135,15 @@ impl Edges {
         Edges {
             list: Vec::new(alloc),
         }
+    }
+
+    /// An empty list with room for this many edges, so that a list of just as many has no room to spare.
+    pub fn with_capacity(alloc: Global, capacity: usize) -> Result<Edges, AllocError>
+        ensures { IfOk result (λ a. a ≡ []) }
+    {
+        Ok(Edges {
+            list: Vec::with_capacity(alloc, capacity)?,
+        })
     }
 
     /// Appends an edge. If memory runs out, the edge is dropped and the list is unchanged.

@@ -44,4 +44,11 @@ impl Frames {
     {
         self.list.as_slice()
     }
+
+    /// The frames in their order, each to be taken out and let go by the caller.
+    pub fn into_vec(self) -> Vec<Bytes>
+        ensures value { result.items ≡ self }
+    {
+        self.list
+    }
 }

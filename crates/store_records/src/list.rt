@@ -56,7 +56,8 @@ pub(crate) fn take_values(alloc: Global, bytes: &[u8]) -> Result<Option<(Items, 
 fn names_of(alloc: Global, count: u32, bytes: &[u8]) -> Result<Option<(Names, &[u8])>, AllocError>
     ensures { IfOk result (λ o. Shows (λ x. (x.0, x.1.now)) o (items_at text_at count bytes.now)) }
 {
-    let mut done = Names::new(alloc);
+    // (a text takes four bytes at least)
+    let mut done = Names::with_capacity(alloc, (count as usize).min(bytes.len() / 4))?;
     let mut left = count;
     let mut rest = bytes;
     'reading: while left > 0 {

@@ -121,7 +121,8 @@ fn take_resource(alloc: Global, bytes: &[u8]) -> Result<Option<(Resource, &[u8])
 fn edges_of(alloc: Global, count: u32, bytes: &[u8]) -> Result<Option<(Edges, &[u8])>, AllocError>
     ensures { IfOk result (λ o. Shows (λ x. (x.0, x.1.now)) o (items_at edge_at count bytes.now)) }
 {
-    let mut done = Edges::new(alloc);
+    // (an edge takes 17 bytes at least)
+    let mut done = Edges::with_capacity(alloc, (count as usize).min(bytes.len() / 17))?;
     let mut left = count;
     let mut rest = bytes;
     'reading: while left > 0 {
@@ -155,7 +156,8 @@ fn resources_of(
 ) -> Result<Option<(Resources, &[u8])>, AllocError>
     ensures { IfOk result (λ o. Shows (λ x. (x.0, x.1.now)) o (items_at resource_at count bytes.now)) }
 {
-    let mut done = Resources::new(alloc);
+    // (a resource takes 18 bytes at least)
+    let mut done = Resources::with_capacity(alloc, (count as usize).min(bytes.len() / 18))?;
     let mut left = count;
     let mut rest = bytes;
     'reading: while left > 0 {

@@ -53,7 +53,7 @@ pub(crate) fn kept(alloc: Global, edges: Vec<Edge>, new: Vec<bool>) -> Result<Ed
     requires { length new.items ≡ length edges.items }
     ensures { IfOk result (λ es. es ≡ kept edges.items new.items) }
 {
-    let mut done = Edges::new(alloc);
+    let mut done = Edges::with_capacity(alloc, edges.len())?;
     let mut at = 0;
     for edge in edges {
         if new[at] {

@@ -38,9 +38,10 @@ fn front(alloc: Global, items: Items) -> Result<(Resources, Option<Refusal>), Wi
     requires { IsCounted (array (items_of items)) }
     ensures { Gives result (Ok (front_of 0 items)) }
 {
-    let mut done = Resources::new(alloc);
+    let list = items.into_vec();
+    let mut done = Resources::with_capacity(alloc, list.len())?;
     let mut index = 0;
-    for item in items.into_vec() {
+    for item in list {
         match resource(alloc, index, item) {
             Ok(resource) => done.push(resource)?,
             Err(WireFault::Refused(refusal)) => return Ok((done, Some(refusal))),

@@ -50,7 +50,7 @@ fn sorted(alloc: Global, texts: Vec<Text>) -> Result<Names, AllocError>
     let mut texts = texts;
     // The least text is last, so that it is taken first.
     texts.sort_unstable_by(|a, b| falling(a, b));
-    let mut names = Names::new(alloc);
+    let mut names = Names::with_capacity(alloc, texts.len())?;
     'taking: while let Some(text) = texts.pop() {
         if !ends_with(texts.as_slice(), text.as_str()) {
             names.push(text)?;

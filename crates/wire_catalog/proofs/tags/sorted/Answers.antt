@@ -12,11 +12,11 @@ taking-init c =
     let fallen = c.sort_unstable_by.new.self.items in
     record {
       falls = fall-sorted fallen (c.sort_unstable_by.ensures.sorted falls falls-weak by);
-      rest = ap (λ names. names ++ sorted_texts fallen) c.new-names.ensures ∙ sorted-permutation c.args.texts.items fallen c.sort_unstable_by.ensures.permutation;
+      rest = ap (λ names. names ++ sorted_texts fallen) c.in_ok-names.ensures ∙ sorted-permutation c.args.texts.items fallen c.sort_unstable_by.ensures.permutation;
     }
 
-pub taking-preserved-in-Continue-1 : goal.taking-preserved-in-Continue-1
-taking-preserved-in-Continue-1 c =
+pub taking-preserved-in-Continue-branch-2 : goal.taking-preserved-in-Continue-branch-2
+taking-preserved-in-Continue-branch-2 c =
     let left = c.pop.new.self.items in
     let x = c.in-Some.text in
     let names = c.taking.names in
