@@ -14,7 +14,7 @@ use Rattle.core_drain.specs.declared.ends.WorkEnd.{WorkEnd}
 use Rattle.fleet_hub.specs.declared.entry.Entry.{Entry}
 use Rattle.fleet_hub.specs.Calls.{ClaimDoes, SettleDoes}
 use Rattle.fleet_hub.specs.Seen.{OneCall}
-use Rattle.fleet_hub.specs.Ends.{claimed_job, returned_job, WorkCalls, none, claim, settle, release, LastCall, by_claim, by_settle, by_release, WorksOn}
+use Rattle.fleet_hub.specs.Ends.{claimed_job, returned_job, WorkCalls, none, claim, settle, LastCall, by_claim, by_settle, by_release, WorksOn}
 
 -- what differs from each answer that hands a job out hands none out
 no_job : (came : Claimed) → ((job : Job) → came ≢ claimed.Job job) → claimed_job came ≡ None
@@ -45,7 +45,6 @@ module _ {D K : Type 0} (w : Sight D K) (generation : K → ℕ) (only : Bool) w
     calls_join last c none = first
     calls_join last c (claim came mid after calls one) = claim came mid after (calls_join None mid calls) one
     calls_join last c (settle came job v mid after calls one) = settle came job v mid after (calls_join (Some job) mid calls) one
-    calls_join last c (release job mid after calls one) = release job mid after (calls_join (Some job) mid calls) one
 
     -- and the last one of them is the last of all
     pub last_later : (end : WorkEnd) (c : PassView (Entry D K)) → LastCall w generation only hand end b c → LastCall w generation only held end a c

@@ -31,15 +31,13 @@ returned_job _ = None
 -- ---- call by call
 
 -- The calls of a worker, from the job at hand at the start, if any, to the job at hand after them. A worker claims only without a
--- job, and settles or queues again only the job at hand.
+-- job, and settles only the job at hand. It queues a job again only as its last call.
 pub data WorkCalls {D K : Type 0} (w : Sight D K) (generation : K → ℕ) (only_work : Bool) (held : Option Job) (before : PassView (Entry D K)) : Option Job → PassView (Entry D K) → Type 0 where
   none : WorkCalls w generation only_work held before held before
   claim : (came : Claimed) (mid after : PassView (Entry D K)) → WorkCalls w generation only_work held before None mid
       → OneCall w only_work (λ u. ClaimDoes u came) mid after → WorkCalls w generation only_work held before (claimed_job came) after
   settle : (came : Settled) (job : Job) (v : Verdict) (mid after : PassView (Entry D K)) → WorkCalls w generation only_work held before (Some job) mid
       → OneCall w only_work (λ u. SettleDoes u generation came job v) mid after → WorkCalls w generation only_work held before (returned_job came) after
-  release : (job : Job) (mid after : PassView (Entry D K)) → WorkCalls w generation only_work held before (Some job) mid
-      → OneCall w only_work (λ u. ReleaseDoes u job) mid after → WorkCalls w generation only_work held before None after
 
 -- The last call is a claim or a settle that answered the end. Or there was no memory, and the last call queues the job at hand
 -- again; after a settle that is the job it handed back.
