@@ -8,6 +8,7 @@ pub mod Claims
 pub mod Settles
 pub mod Sweeps
 pub mod Later
+pub mod LastCall
 pub mod SettleEnds
 pub mod ClaimEnds
 pub mod Verdicts

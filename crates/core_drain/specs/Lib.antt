@@ -1,5 +1,6 @@
 pub mod Ends
 pub mod Answers
+pub mod LastCall
 -- Re-exports for the crates above.
 pub use Rattle.command_decode.specs.text_spec as text_spec
 pub use Rattle.command_decode.specs.json_tree as json_tree

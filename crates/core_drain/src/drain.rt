@@ -7,6 +7,7 @@ ghost use Rattle.core_course.specs.Work.{Worked};
 ghost use Rattle.core_drain.specs.declared.ends.WorkEnd.TheVariants as end;
 ghost use Rattle.core_drain.specs.Answers.{after_claim};
 ghost use Rattle.core_drain.specs.Ends.{EndsSo, EndsHere, NothingClaimed, ClaimsNoMore};
+ghost use Rattle.core_drain.specs.LastCall.{EndsByCall, TurnEndsByCall};
 
 use crate::ends::WorkEnd;
 use crate::work::work_on;
@@ -25,6 +26,9 @@ pub fn drain_alone<D: Disk + Drop, K: Keeper + Drop>(
 ) -> WorkEnd
     ensures worked { Worked (sight_of D.Disk K.Keeper) core.old core.new }
     ensures ends { EndsSo (sight_of D.Disk K.Keeper) result core.old core.new }
+
+    // The last call of the core answered the end. So a fault that was got over is none.
+    ensures last { EndsByCall D.Disk K.Keeper result core.old core.new }
     ensures queue_cause { QueueCounts D.fault_count core.old.queue core.new.queue (result ≡ end.QueueFault) }
     ensures unclaimed { NothingClaimed (sight_of D.Disk K.Keeper) core.old core.new }
     ensures down { (result ≡ end.Down) ↔ (down_of K.down core.old ≡ true) }
@@ -47,6 +51,7 @@ fn turn<D: Disk + Drop, K: Keeper + Drop>(alloc: Global, core: &mut Core<D, K>) 
     requires up { down_of K.down core.old ≡ false }
     ensures worked { Worked (sight_of D.Disk K.Keeper) core.old core.new }
     ensures ends { EndsHere (sight_of D.Disk K.Keeper) result core.old core.new }
+    ensures last { TurnEndsByCall D.Disk K.Keeper result core.old core.new }
     ensures queue_cause { QueueCounts D.fault_count core.old.queue core.new.queue (result ≡ Some end.QueueFault) }
     ensures claims { ClaimsNoMore (sight_of D.Disk K.Keeper) core.old core.new }
 {

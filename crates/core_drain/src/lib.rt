@@ -10,6 +10,7 @@
 //! The clauses of [`drain_alone`]:
 //! - `worked`: the events are claims, releases, supersedings, applied commands, failures and discards. After a call that took
 //!   the core down nothing is written.
+//! - `last`: the last call of the core answered the end. So a fault that was got over ends nothing.
 //! - `unclaimed`: if the core is up in the end, nothing is claimed. Down comes exactly if the core was down (`down`).
 //! - `ends`: Done only if nothing is pending. At QueueFault a command is pending, or the last applied one lacks its Done
 //!   (`LacksDone`). At StoreDown a command is pending, and the store's count rose by two beyond the counted failures. Spent

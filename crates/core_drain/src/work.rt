@@ -7,6 +7,7 @@ ghost use Rattle.core_course.specs.Sight.{sight_of};
 ghost use Rattle.core_course.specs.Work.{Worked};
 ghost use Rattle.core_drain.specs.Answers.{after_settle};
 ghost use Rattle.core_drain.specs.Ends.{EndsHere, LetsGo};
+ghost use Rattle.core_drain.specs.LastCall.{TurnEndsByCall};
 
 use crate::ends::WorkEnd;
 use command_core::{Core, Job, Keeper, Prepared, Settled, Verdict};
@@ -26,6 +27,7 @@ pub(crate) fn work_on<D: Disk + Drop, K: Keeper + Drop>(
     requires fit { IsFit job.command }
     ensures worked { Worked (sight_of D.Disk K.Keeper) core.old core.new }
     ensures ends { EndsHere (sight_of D.Disk K.Keeper) result core.old core.new }
+    ensures last { TurnEndsByCall D.Disk K.Keeper result core.old core.new }
     ensures queue_cause { QueueCounts D.fault_count core.old.queue core.new.queue (result ≡ Some WorkEnd.QueueFault) }
     ensures lets_go { LetsGo (sight_of D.Disk K.Keeper) job.receipt core.old core.new }
 {
@@ -49,6 +51,7 @@ fn settle_change<D: Disk + Drop, K: Keeper + Drop>(
     requires decodes { IsVerdictOf (Verdict.Change change) job.command }
     ensures worked { Worked (sight_of D.Disk K.Keeper) core.old core.new }
     ensures ends { EndsHere (sight_of D.Disk K.Keeper) result core.old core.new }
+    ensures last { TurnEndsByCall D.Disk K.Keeper result core.old core.new }
     ensures queue_cause { QueueCounts D.fault_count core.old.queue core.new.queue (result ≡ Some WorkEnd.QueueFault) }
     ensures lets_go { LetsGo (sight_of D.Disk K.Keeper) job.receipt core.old core.new }
 {
@@ -70,6 +73,7 @@ fn settle_as<D: Disk + Drop, K: Keeper + Drop>(
     requires decodes { IsVerdictOf verdict job.command }
     ensures worked { Worked (sight_of D.Disk K.Keeper) core.old core.new }
     ensures ends { EndsHere (sight_of D.Disk K.Keeper) result core.old core.new }
+    ensures last { TurnEndsByCall D.Disk K.Keeper result core.old core.new }
     ensures queue_cause { QueueCounts D.fault_count core.old.queue core.new.queue (result ≡ Some WorkEnd.QueueFault) }
     ensures lets_go { LetsGo (sight_of D.Disk K.Keeper) job.receipt core.old core.new }
 {

@@ -1,17 +1,21 @@
 -- Workers, and then the caller.
-use Rattle.std.proofs.Common.{◌≡◌, ◌∙◌, ◌↔◌, Bool, true, false, ◌||◌, if◌then◌else◌, Some, refl, sym, subst}
+use Rattle.std.proofs.Common.{◌≡◌, ◌∙◌, ◌↔◌, Bool, true, false, ◌||◌, if◌then◌else◌, Some, refl, sym, ap, subst}
 use Rattle.core_drain.specs.queue_log.Queued.{queue_down}
 use Rattle.core_drain.specs.core_spec.History.{History}
 use Rattle.core_drain.specs.core_state.declared.state.CoreState.{CoreState}
 use Rattle.core_drain.specs.core_state.declared.state.DownBy.{DownBy}
 use Rattle.core_drain.specs.core_state.declared.state.DownBy.TheVariants.{No, Queue, Store}
 use Rattle.core_drain.specs.core_state.Seen.{down_by_of}
-use Rattle.core_drain.specs.core_course.Sight.{Sight, is_down}
+use Rattle.core_drain.specs.fleet_ports.declared.disk.Disk as disk
+use Rattle.core_drain.specs.fleet_keeper.declared.keeper.Keeper as keeper
+use Rattle.core_drain.specs.core_course.Sight.{Sight, is_down, sight_of}
 use Rattle.core_drain.specs.core_course.Work.{IsWork, Worked}
 use Rattle.core_drain.proofs.of_core_course.Stretches.{worked_on, course_also}
 use Rattle.core_drain.specs.declared.ends.WorkEnd.{WorkEnd}
 use Rattle.core_drain.specs.declared.ends.WorkEnd.TheVariants.{Done, QueueFault, StoreDown, Spent, Down, Memory}
 use Rattle.core_drain.specs.Ends.{EndsSo, EndsHere, NothingClaimed}
+use Rattle.core_drain.specs.LastCall.{EndsByCall}
+use Rattle.core_drain.proofs.LastCall.{by_call_later}
 use Rattle.core_drain.proofs.Links.{core_up}
 use Rattle.core_drain.proofs.Releases.{FreeSays, free_claims_works, free_claims_down, nothing_works}
 use Rattle.core_drain.proofs.Later.{here_later, ends_so, not_down}
@@ -57,6 +61,12 @@ module _ {D K : Type 0} (w : Sight D K) where
 
   pub finished_store : (core : CoreState D K) → down_by_of w.store_down core ≡ Store → Finished w StoreDown core core
   finished_store core is = store_finish core (store_named core.undone (queue_down core.queue) (w.store_down core.store) is)
+
+  pub by_store_down : (core : CoreState D K) → down_by_of w.store_down core ≡ Store → is_down w core ≡ false → ⊥
+  by_store_down core is up = let apart : true ≡ false = sym (store_named core.undone (queue_down core.queue) (w.store_down core.store) is) ∙ (core_up w core up).store in cc
+
+  pub by_queue_down : (core : CoreState D K) → down_by_of w.store_down core ≡ Queue → is_down w core ≡ false → ⊥
+  by_queue_down core is up = let apart : true ≡ false = sym (queue_named core.undone (queue_down core.queue) (w.store_down core.store) is).1 ∙ up in cc
 
   queue_finish : (core : CoreState D K) → (w.store_down core.store ≡ false) × (is_down w core ≡ true) → Finished w QueueFault core core
   queue_finish core is = record {
@@ -145,3 +155,17 @@ module _ {D K : Type 0} (w : Sight D K) where
 
     pub drain_down : (end ≡ Down) ↔ (is_down w start ≡ true)
     drain_down = ((λ e. absurd (not_down w end start final drain_ends_here e)), (λ down. let apart : true ≡ false = sym down ∙ was_up in cc))
+
+-- the last call of a core that is up at the end is the caller's
+module _ {D K : Type 0} (d : disk.Ghosts D) (k : keeper.Ghosts K) where
+  pub drain_last : (end : WorkEnd) (start freed closed final : CoreState D K) → FreeSays (sight_of d k) start freed → Follows (sight_of d k) true freed closed → Finished (sight_of d k) end closed final
+      → (is_down (sight_of d k) closed ≡ false → EndsByCall d k end closed final) → is_down (sight_of d k) final ≡ false → EndsByCall d k end start final
+  drain_last end start freed closed final says hub finish last up = by_state (is_down (sight_of d k) closed) refl
+    where
+      by_state : (was : Bool) → is_down (sight_of d k) closed ≡ was → EndsByCall d k end start final
+      by_state false is =
+          by_call_later d k start closed final
+          (worked_on (sight_of d k) start freed closed (free_claims_works (sight_of d k) start freed says) (work_of_hub (sight_of d k) freed closed hub)) end (last is)
+      by_state true is =
+          let same : is_down (sight_of d k) final ≡ is_down (sight_of d k) closed = ap (is_down (sight_of d k)) (finish.down is) in
+          let apart : true ≡ false = sym is ∙ (sym same ∙ up) in cc

@@ -1,10 +1,11 @@
 //! Drains a core by several workers.
-ghost use Rattle.std.specs.Prelude.{◌≡◌, ◌↔◌, ◌≤◌, ◌+◌, true, All, vec_len, IfOk, OnErr};
+ghost use Rattle.std.specs.Prelude.{◌≡◌, ◌↔◌, ◌≤◌, ◌+◌, true, false, All, vec_len, IfOk, OnErr};
 ghost use Rattle.core_drain.specs.core_state.Seen.{down_of};
 ghost use Rattle.core_drain.specs.core_course.Sight.{sight_of};
 ghost use Rattle.core_drain.specs.core_course.Work.{Worked};
 ghost use Rattle.core_drain.specs.declared.ends.WorkEnd.TheVariants as end;
 ghost use Rattle.core_drain.specs.Ends.{EndsSo, NothingClaimed};
+ghost use Rattle.core_drain.specs.LastCall.{EndsByCall};
 ghost use Rattle.fleet_hub.specs.Finish.{Finished};
 ghost use Rattle.fleet_hub.specs.Follows.{Follows};
 ghost use Rattle.fleet_rows.specs.Limits.{most_workers};
@@ -46,6 +47,9 @@ pub fn drain<
     requires few { workers ≤ most_workers }
     ensures worked { Worked (sight_of D.Disk K.Keeper) core result.core }
     ensures ends { EndsSo (sight_of D.Disk K.Keeper) result.end core result.core }
+
+    // If the core is up at the end, its last call answered the end. So a fault that was got over is none.
+    ensures last { down_of K.down result.core ≡ false → EndsByCall D.Disk K.Keeper result.end core result.core }
     ensures unclaimed { NothingClaimed (sight_of D.Disk K.Keeper) core result.core }
     ensures down { (result.end ≡ end.Down) ↔ (down_of K.down core ≡ true) }
 {
@@ -181,7 +185,8 @@ fn join_all<D: Disk + Drop, K: Keeper + Drop>(
 
 // Settles what is left, if the core is up.
 fn finish<D: Disk + Drop, K: Keeper + Drop>(alloc: Global, core: &mut Core<D, K>) -> WorkEnd
-    ensures { Finished (sight_of D.Disk K.Keeper) result core.old core.new }
+    ensures finished { Finished (sight_of D.Disk K.Keeper) result core.old core.new }
+    ensures last { down_of K.down core.old ≡ false → EndsByCall D.Disk K.Keeper result core.old core.new }
 {
     match core.down_by() {
         DownBy::Store => WorkEnd::StoreDown,

@@ -18,10 +18,11 @@
 //! - Each call is one hold (`one_call`). Its pass can settle what a claim gives, whatever others do (`job`). `holds` and
 //!   `each_once` are those of the lock. A core that was down stays as it is; one that went down did so by a log that counted
 //!   faults (`follows`).
-//! - [`Hub::work`]: a worker claims when it has no job, and settles or requeues the job of its last claim. Its end is what its
-//!   last call answered, or memory is missing and it requeued the job (`ends`, `LastCall`).
-//! - [`drain`]: 1 to 64 workers, and then the caller. A fault that others get over is no end, and may raise a count. No clause
-//!   says that workers run at once, or which one settles what.
+//! - [`Hub::work`]: a worker claims when it has no job, and settles the job of its last claim. Its end is what its last call
+//!   answered. Or memory is missing, and its last call requeued the job (`ends`, `LastCall`).
+//! - [`drain`]: 1 to 64 workers, and then the caller. A core that is up at the end was left by a call that answered the end
+//!   (`last`). So a fault that others get over is no end, but it may raise a count. No clause says that workers run at once, or
+//!   which one settles what.
 //! - A worker decodes and prepares outside the lock. First it takes and frees four bytes for each byte of the payload, so that
 //!   its thread's memory grows once.
 #![tactic(auto)]

@@ -6,6 +6,7 @@ use Rattle.core_drain.specs.declared.ends.WorkEnd.{WorkEnd}
 use Rattle.core_drain.proofs.Calm.{counts_as, counts_calm, counts_still, counts_then, end_fault}
 use Rattle.core_drain.proofs.Later.{here_later, ends_so}
 use Rattle.core_drain.proofs.Unclaimed.{freed_claims_none, still_none, down_claims_none}
+use Rattle.core_drain.proofs.LastCall.{by_call_later}
 use Rattle.core_drain.proofs.drain.drain_alone.Goals as goal
 
 pub turns-init : goal.turns-init
@@ -73,3 +74,6 @@ pub returns-in-Some-clause-unclaimed : goal.returns-in-Some-clause-unclaimed
 returns-in-Some-clause-unclaimed g c =
     let w : Sight g.row.D.Denot g.row.K.Denot = sight g.D.Disk.is_told g.D.Disk.seen g.D.Disk.may_leave g.D.Disk.moment g.D.Disk.left_since g.D.Disk.fault_count g.K.Keeper.is_told g.K.Keeper.kept g.K.Keeper.images g.K.Keeper.moment g.K.Keeper.images_since g.K.Keeper.down g.K.Keeper.size g.K.Keeper.fault_count g.K.Keeper.opened g.K.Keeper.is_within in
     still_none w c.args.core.now c.turns.core c.turn.new.core c.turns.invariant.up c.turns.invariant.worked c.turns.invariant.unclaimed c.turn.ensures.claims
+
+pub returns-in-Some-clause-last : goal.returns-in-Some-clause-last
+returns-in-Some-clause-last g c = by_call_later g.D.Disk g.K.Keeper c.args.core.now c.turns.core c.turn.new.core c.turns.invariant.worked c.in-Some.end c.in-Some.ensures.last

@@ -11,6 +11,7 @@ use Rattle.core_drain.proofs.Calm.{counts_as, counts_calm, counts_then, claim_fa
 use Rattle.core_drain.proofs.ClaimEnds.{ClaimAnswers, claim_ends}
 use Rattle.core_drain.proofs.Later.{here_later}
 use Rattle.core_drain.proofs.Unclaimed.{claims_none, claimed_let_go}
+use Rattle.core_drain.proofs.LastCall.{turn_later, last_claim}
 use Rattle.core_drain.proofs.drain.turn.Goals as goal
 
 pub work_on-requires-clause-up : goal.work_on-requires-clause-up
@@ -135,3 +136,22 @@ returns-in_default-clause-claims g c =
       cause = c.claim.ensures.does.cause;
     } in
     claims_none w c.claim.result c.args.core.now c.claim.new.self says c.in_default.not-Job
+
+pub returns-in-Job-clause-last : goal.returns-in-Job-clause-last
+returns-in-Job-clause-last g c =
+    let w : Sight g.row.D.Denot g.row.K.Denot = sight g.D.Disk.is_told g.D.Disk.seen g.D.Disk.may_leave g.D.Disk.moment g.D.Disk.left_since g.D.Disk.fault_count g.K.Keeper.is_told g.K.Keeper.kept g.K.Keeper.images g.K.Keeper.moment g.K.Keeper.images_since g.K.Keeper.down g.K.Keeper.size g.K.Keeper.fault_count g.K.Keeper.opened g.K.Keeper.is_within in
+    let says : ClaimSays w c.claim.result c.args.core.now c.claim.new.self = record {
+      adds = c.claim.ensures.does.adds;
+      stands = c.claim.ensures.does.stands;
+      any_moment = c.claim.ensures.does.any_moment;
+      submitted = c.claim.ensures.does.submitted;
+      others = c.claim.ensures.does.others;
+      store = c.claim.ensures.does.store;
+      down = c.claim.ensures.does.down;
+      unchanged = c.claim.ensures.does.unchanged;
+      cause = c.claim.ensures.does.cause;
+    } in
+    turn_later g.D.Disk g.K.Keeper c.args.core.now c.claim.new.self c.work_on.new.core (claim_works w c.claim.result c.args.core.now c.claim.new.self says) c.work_on.result c.work_on.ensures.last
+
+pub returns-in_default-clause-last : goal.returns-in_default-clause-last
+returns-in_default-clause-last g c = last_claim g.D.Disk g.K.Keeper c.args.core.now c.claim.new.self c.claim.result c.end_of.result c.end_of.ensures c.claim.ensures.does

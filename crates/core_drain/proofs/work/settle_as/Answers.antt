@@ -8,6 +8,7 @@ use Rattle.core_drain.specs.declared.ends.WorkEnd.{WorkEnd}
 use Rattle.core_drain.proofs.Calm.{counts_as, counts_calm, counts_still, counts_then, settle_fault, memory_is_calm}
 use Rattle.core_drain.proofs.SettleEnds.{SettleAnswers, settle_ends}
 use Rattle.core_drain.proofs.Unclaimed.{settle_lets_go, given_let_go}
+use Rattle.core_drain.proofs.LastCall.{last_settle, memory_ends}
 use Rattle.core_drain.proofs.work.settle_as.Goals as goal
 
 pub give_back-requires : goal.give_back-requires
@@ -109,3 +110,9 @@ pub returns-in_default-clause-lets_go : goal.returns-in_default-clause-lets_go
 returns-in_default-clause-lets_go g c =
     let w : Sight g.row.D.Denot g.row.K.Denot = sight g.D.Disk.is_told g.D.Disk.seen g.D.Disk.may_leave g.D.Disk.moment g.D.Disk.left_since g.D.Disk.fault_count g.K.Keeper.is_told g.K.Keeper.kept g.K.Keeper.images g.K.Keeper.moment g.K.Keeper.images_since g.K.Keeper.down g.K.Keeper.size g.K.Keeper.fault_count g.K.Keeper.opened g.K.Keeper.is_within in
     settle_lets_go w c.settle.result c.args.job c.args.verdict c.args.core.now c.settle.new.self c.requires.up c.in_default.not-Memory c.settle.ensures.does.down c.settle.ensures.does.store_down c.settle.ensures.does.gives
+
+pub returns-in-Memory-clause-last : goal.returns-in-Memory-clause-last
+returns-in-Memory-clause-last g c = memory_ends g.D.Disk g.K.Keeper c.args.core.now c.give_back.new.core c.give_back.result c.give_back.ensures.memory
+
+pub returns-in_default-clause-last : goal.returns-in_default-clause-last
+returns-in_default-clause-last g c = last_settle g.D.Disk g.K.Keeper c.args.core.now c.settle.new.self c.settle.result c.args.job c.args.verdict c.end_of.result c.end_of.ensures c.settle.ensures.does

@@ -6,6 +6,7 @@ use Rattle.command_decode.specs.declared.fault.DecodeFault.{DecodeFault}
 use Rattle.command_decode.specs.declared.fault.DecodeFault.TheVariants.{Refused}
 use Rattle.core_drain.proofs.Calm.{counts_still, memory_is_calm}
 use Rattle.core_drain.proofs.Verdicts.{is_change, is_refusal}
+use Rattle.core_drain.proofs.LastCall.{memory_ends}
 use Rattle.core_drain.proofs.work.work_on.Goals as goal
 
 pub settle_change-requires-clause-decodes : goal.settle_change-requires-clause-decodes
@@ -21,3 +22,6 @@ settle_as-requires-clause-decodes g c =
 pub returns-in-Err-Memory-clause-queue_cause : goal.returns-in-Err-Memory-clause-queue_cause
 returns-in-Err-Memory-clause-queue_cause g c =
     counts_still g.D.Disk.fault_count c.args.core.now.queue c.give_back.new.core.queue c.give_back.ensures.queue (memory_is_calm c.give_back.result c.give_back.ensures.memory)
+
+pub returns-in-Err-Memory-clause-last : goal.returns-in-Err-Memory-clause-last
+returns-in-Err-Memory-clause-last g c = memory_ends g.D.Disk g.K.Keeper c.args.core.now c.give_back.new.core c.give_back.result c.give_back.ensures.memory

@@ -1,8 +1,8 @@
 use Rattle.std.proofs.Common.{◌∙◌, refl, sym}
-use Rattle.core_drain.specs.core_course.Sight.{Sight, sight}
+use Rattle.core_drain.specs.core_course.Sight.{Sight, sight, sight_of}
 use Rattle.core_drain.proofs.Releases.{FreeSays, nothing_works}
 use Rattle.core_drain.proofs.Unclaimed.{down_claims_none}
-use Rattle.fleet_hub.proofs.Drains.{drain_works, drain_ends, drain_unclaimed, drain_down}
+use Rattle.fleet_hub.proofs.Drains.{drain_works, drain_ends, drain_unclaimed, drain_down, drain_last}
 use Rattle.fleet_hub.proofs.draining.drain.Goals as goal
 
 pub returns-then-is_down-clause-worked : goal.returns-then-is_down-clause-worked
@@ -21,7 +21,7 @@ returns-clause-worked g c =
       queue = c.free_claims.ensures.queue;
       store = c.free_claims.ensures.store;
     } in
-    drain_works w c.finish-end.result c.args.core c.free_claims.new.self c.work_all-core.result c.finish-end.new.core says (sym c.is_down.ensures ∙ c.if-is_down.false) c.work_all-core.ensures c.finish-end.ensures
+    drain_works w c.finish-end.result c.args.core c.free_claims.new.self c.work_all-core.result c.finish-end.new.core says (sym c.is_down.ensures ∙ c.if-is_down.false) c.work_all-core.ensures c.finish-end.ensures.finished
 
 pub returns-clause-ends : goal.returns-clause-ends
 returns-clause-ends g c =
@@ -34,7 +34,7 @@ returns-clause-ends g c =
       queue = c.free_claims.ensures.queue;
       store = c.free_claims.ensures.store;
     } in
-    drain_ends w c.finish-end.result c.args.core c.free_claims.new.self c.work_all-core.result c.finish-end.new.core says (sym c.is_down.ensures ∙ c.if-is_down.false) c.work_all-core.ensures c.finish-end.ensures
+    drain_ends w c.finish-end.result c.args.core c.free_claims.new.self c.work_all-core.result c.finish-end.new.core says (sym c.is_down.ensures ∙ c.if-is_down.false) c.work_all-core.ensures c.finish-end.ensures.finished
 
 pub returns-then-is_down-clause-unclaimed : goal.returns-then-is_down-clause-unclaimed
 returns-then-is_down-clause-unclaimed g c =
@@ -52,7 +52,7 @@ returns-clause-unclaimed g c =
       queue = c.free_claims.ensures.queue;
       store = c.free_claims.ensures.store;
     } in
-    drain_unclaimed w c.finish-end.result c.args.core c.free_claims.new.self c.work_all-core.result c.finish-end.new.core says (sym c.is_down.ensures ∙ c.if-is_down.false) c.work_all-core.ensures c.finish-end.ensures
+    drain_unclaimed w c.finish-end.result c.args.core c.free_claims.new.self c.work_all-core.result c.finish-end.new.core says (sym c.is_down.ensures ∙ c.if-is_down.false) c.work_all-core.ensures c.finish-end.ensures.finished
 
 pub returns-clause-down : goal.returns-clause-down
 returns-clause-down g c =
@@ -65,4 +65,16 @@ returns-clause-down g c =
       queue = c.free_claims.ensures.queue;
       store = c.free_claims.ensures.store;
     } in
-    drain_down w c.finish-end.result c.args.core c.free_claims.new.self c.work_all-core.result c.finish-end.new.core says (sym c.is_down.ensures ∙ c.if-is_down.false) c.work_all-core.ensures c.finish-end.ensures
+    drain_down w c.finish-end.result c.args.core c.free_claims.new.self c.work_all-core.result c.finish-end.new.core says (sym c.is_down.ensures ∙ c.if-is_down.false) c.work_all-core.ensures c.finish-end.ensures.finished
+
+pub returns-clause-last : goal.returns-clause-last
+returns-clause-last g c =
+    let says : FreeSays (sight_of g.D.Disk g.K.Keeper) c.args.core c.free_claims.new.self = record {
+      releases = c.free_claims.ensures.releases;
+      stands = c.free_claims.ensures.stands;
+      submitted = c.free_claims.ensures.submitted;
+      others = c.free_claims.ensures.others;
+      queue = c.free_claims.ensures.queue;
+      store = c.free_claims.ensures.store;
+    } in
+    drain_last g.D.Disk g.K.Keeper c.finish-end.result c.args.core c.free_claims.new.self c.work_all-core.result c.finish-end.new.core says c.work_all-core.ensures c.finish-end.ensures.finished c.finish-end.ensures.last
