@@ -12,7 +12,7 @@ use Rattle.command_core.specs.core_spec.History.{History}
 use Rattle.command_core.specs.core_opening.declared.faults.FileName.{FileName}
 use Rattle.command_core.specs.core_opening.declared.faults.OpenCoreFault.{OpenCoreFault}
 use Rattle.command_core.specs.core_opening.declared.faults.OpenCoreFault.TheVariants as fault
-use Rattle.command_core.specs.core_opening.Opened.{LogCore, found_queue, found_store, IsFound, HadRoom, GoesOn, LacksRoom, IsCoreDamage, LogCoreStands, IsUpCore, IsAtStart, StandsForAll, HasLogs, disks_in, FilesStand, DisksStand, AreUntouched, OpensWithin}
+use Rattle.command_core.specs.core_opening.Opened.{LogCore, found_queue, found_store, IsFound, HadRoom, GoesOn, LacksRoom, IsCoreDamage, LogCoreStands, IsUpCore, IsAtStart, StandsForAll, HasLogs, disks_in, FilesStand, DisksStand, AreUntouched, KeepsRecords, OpensWithin}
 use Rattle.calm_commands.specs.declared.status.Status.{Status}
 use Rattle.calm_commands.specs.declared.status.Status.TheVariants as status
 
@@ -152,5 +152,7 @@ pub record IsUnopened {D : Type 0} (w : DiskSight D) (disks after : Disks D) (an
   pub any_moment : ForEachImages w disks (OpensSo w disks after)
   pub leaves : ForEachImages w disks (λ ttls history. DisksStand w.may_leave ttls after (Restart ∷ history))
   pub untouched : (answer ≡ status.QueueFault → ⊥) → AreUntouched w.seen w.may_leave w.moment w.left_since disks after
+  -- whatever the images were, the records are those of before, as they are read, or these and the Done that the queue lacked
+  pub kept : IsTrue w.tells → KeepsRecords w.seen disks after
   pub queue_counts : QueueDisksCount w disks after (answer ≡ status.QueueFault)
   pub store_counts : StoreDisksCount w disks after (answer ≡ status.StoreFault)

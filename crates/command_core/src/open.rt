@@ -6,7 +6,7 @@ ghost use Rattle.core_layout.specs.core_spec.History.{History};
 ghost use Rattle.core_opening.specs.declared.faults.FileName.{FileName};
 ghost use Rattle.core_opening.specs.declared.faults.OpenCoreFault.TheVariants.{QueueFault, Damaged};
 ghost use Rattle.core_opening.specs.Opened.{seen_queue, seen_store, FilesStand, DisksStand, MatchOpening, IsCoreDamage, CoreStandsForAll, HasLogs, IsUpCore};
-ghost use Rattle.core_opening.specs.Opened.{disks_after, QueueFaults, StoreFaults, IsQueueFault, IsStoreFault, AllAreUntouched, OpeningIsWithin, IsAtStart};
+ghost use Rattle.core_opening.specs.Opened.{disks_after, QueueFaults, StoreFaults, IsQueueFault, IsStoreFault, AllAreUntouched, KeepsRecords, OpeningIsWithin, IsAtStart};
 
 use crate::calls::Core;
 use core_opening::{OpenCoreFault, open_state};
@@ -41,6 +41,9 @@ pub fn open_core<D: Disk + Drop>(
     ensures any_moment { IsTrue D.is_told → (ttls : Ttls) (history : History) → DisksStand D.may_leave ttls disks history
         → OpeningIsWithin D.Disk ttls disks (disks_after result) history }
     ensures untouched { IfErr result (λ e. (e.0 ≡ QueueFault → ⊥) → AllAreUntouched D.Disk disks e.1) }
+
+    // Whatever the images were: after an error the records are those of before, as they are read, or these and the Done that lacked.
+    ensures kept { IsTrue D.is_told → IfErr result (λ e. KeepsRecords D.seen disks e.1) }
 
     ensures queue_cause { QueueFaults D.Disk disks (disks_after result) (IsQueueFault result) }
     ensures store_cause { StoreFaults D.Disk disks (disks_after result) (IsStoreFault result) }

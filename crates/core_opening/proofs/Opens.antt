@@ -1,6 +1,6 @@
 -- What the answers of an opening say of the four files, together.
 use Rattle.std.proofs.Common.{◌≡◌, ◌∙◌, inl, inr, ℕ, List, [], ◌∷◌, map, arith, refl, sym, ap, subst, Option, Some, None, Result, Ok, Err}
-use Rattle.std.specs.Prelude.{IfOk}
+use Rattle.std.specs.Prelude.{◌⊎◌, ◌++◌, IfOk, IfErr}
 use Rattle.ttl_sweeps.proofs.of_plain_laws.Options.{none_some, some_is}
 use Rattle.core_state.specs.fleet_rows.declared.settings.Ttls.{Ttls}
 use Rattle.core_state.specs.fleet_ports.declared.disk.Disks.{Disks}
@@ -12,6 +12,7 @@ use Rattle.core_state.specs.log_pair.Open.{PairCounts}
 use Rattle.core_state.specs.log_pair.declared.pair.Pair.{Pair}
 use Rattle.core_state.specs.log_pair.Pair.{disk_a, disk_b, side_of, generation_of_pair, IsGood}
 use Rattle.core_state.specs.record_spec.declared.queue.QueueRecord.{QueueRecord}
+use Rattle.core_state.specs.record_spec.declared.queue.QueueRecord.TheVariants.{Done}
 use Rattle.core_state.specs.record_spec.declared.store.StoreRecord.{StoreRecord}
 use Rattle.core_state.specs.queue_records.Reading.{queue_at}
 use Rattle.core_state.specs.store_records.Reading.{store_at}
@@ -33,7 +34,7 @@ use Rattle.core_opening.specs.declared.faults.FileName.{FileName}
 use Rattle.core_opening.specs.declared.faults.FileName.TheVariants.{QueueA, QueueB, StoreA, StoreB}
 use Rattle.core_opening.specs.declared.faults.OpenCoreFault.{OpenCoreFault}
 use Rattle.core_opening.specs.declared.faults.OpenCoreFault.TheVariants.{QueueFault, StoreFault, Damaged, Memory, Spent}
-use Rattle.core_opening.specs.Opened.{LogCore, found_queue, found_store, IsQueueDamageOf, IsCoreDamage, IsFound, HasSize, HasNoRoom, HadRoom, LacksDone, TellsMissing, MatchOpening, MatchGathered, MatchMended, IsQueueFault, IsStoreFault, IsSameCore, AreUntouched, DisksStand, OpensWithin, CountsIn, GoesOn, disks_in}
+use Rattle.core_opening.specs.Opened.{LogCore, found_queue, found_store, IsQueueDamageOf, IsCoreDamage, IsFound, HasSize, HasNoRoom, HadRoom, LacksDone, TellsMissing, MatchOpening, MatchGathered, MatchMended, IsQueueFault, IsStoreFault, IsSameCore, AreUntouched, DisksStand, OpensWithin, CountsIn, GoesOn, disks_in, disks_after, SameStore, queue_as_read, HasWritten, KeepsRecords}
 
 -- ---- logs that are found aren't damaged
 
@@ -176,6 +177,34 @@ if_map (Err e) to p = tt
 pub if_any : {D : Type 0} (result : Result (LogCore D) (OpenCoreFault × Disks D)) {P : Type 0} → P → IfOk result (λ c. P)
 if_any (Ok core) p = p
 if_any (Err e) p = tt
+
+-- ---- an opening that failed keeps the records
+
+pub kept_untouched : {D : Type 0} (seen : D → List ℕ) (may_leave : D → List ℕ → Type 0) (moment : D → ℕ) (left_since : D → ℕ → List ℕ → Type 0) (old new : Disks D) → AreUntouched seen may_leave moment left_since old new
+    → KeepsRecords seen old new
+kept_untouched seen may_leave moment left_since old new u =
+    record { store_a = u.store_a.same; store_b = u.store_b.same; queue = inl (λ i. records_at queue_at (u.queue_a.same i) (u.queue_b.same i)) }
+
+pub written_more : (missing : Option ℕ) (r : ℕ) (records : List QueueRecord) (read : Option (List QueueRecord)) → missing ≡ Some r → (read ≡ Some records) ⊎ (read ≡ Some (records ++ Done r ∷ [])) → HasWritten missing records read
+written_more missing r records read is (inl same) = inl same
+written_more missing r records read is (inr more) = inr (r, is, more)
+
+module _ {D : Type 0} (seen : D → List ℕ) (disks : Disks D) (state : LogCore D) (missing : Option ℕ)
+    (found : IsFound (pair_image (image_of (seen disks.queue_a)) (image_of (seen disks.queue_b))) (pair_image (image_of (seen disks.store_a)) (image_of (seen disks.store_b))) (found_queue state) (found_store state))
+    (tells : TellsMissing missing (found_queue state) (found_store state)) where
+  kept_queue : (read : Option (List QueueRecord)) → HasWritten missing (found_queue state) read
+      → (read ≡ queue_as_read seen disks)
+      ⊎ ((queued : List QueueRecord) × (kept : List StoreRecord) × (r : ℕ) × (queue_as_read seen disks ≡ Some queued)
+      × (records_at store_at (seen disks.store_a) (seen disks.store_b) ≡ Some kept) × LacksDone queued kept r × (read ≡ Some (queued ++ Done r ∷ [])))
+  kept_queue read (inl is) = inl (is ∙ sym found.queue_is)
+  kept_queue read (inr (r, is, more)) =
+      inr (found_queue state, found_store state, r, found.queue_is, found.store_is, subst (λ (m : Option ℕ). TellsMissing m (found_queue state) (found_store state)) is tells, more)
+
+  pub kept_mended : (result : Result (LogCore D) (OpenCoreFault × Disks D)) → seen (disk_a (pair_of state.store)) ≡ seen disks.store_a → seen (disk_b (pair_of state.store)) ≡ seen disks.store_b
+      → SameStore state (disks_after result) → IfErr result (λ e. HasWritten missing (found_queue state) (queue_as_read seen e.1)) → IfErr result (λ e. KeepsRecords seen disks e.1)
+  kept_mended (Ok core) same_a same_b store written = tt
+  kept_mended (Err e) same_a same_b store written =
+      record { store_a = ap seen store.store_a ∙ same_a; store_b = ap seen store.store_b ∙ same_b; queue = kept_queue (queue_as_read seen e.1) written }
 
 -- ---- the files in which the logs go on
 

@@ -221,6 +221,28 @@ AllAreUntouched d = AreUntouched d.seen d.may_leave d.moment d.left_since
 abbrev pub QueueIsLater : {D : Type 0} → (D → ℕ) → Disks D → Disks D → Type 0
 QueueIsLater moment old new = (moment old.queue_a ≤ moment new.queue_a) × (moment old.queue_b ≤ moment new.queue_b)
 
+-- ---- an opening that failed
+
+-- the records of the queue's two files, as they are read
+abbrev pub queue_as_read : {D : Type 0} → (D → List ℕ) → Disks D → Option (List QueueRecord)
+queue_as_read seen disks = records_at queue_at (seen disks.queue_a) (seen disks.queue_b)
+
+-- these records are read, or these and the Done that was missing
+abbrev pub HasWritten : Option ℕ → List QueueRecord → Option (List QueueRecord) → Type 0
+HasWritten missing records read = (read ≡ Some records) ⊎ ((r : ℕ) × (missing ≡ Some r) × (read ≡ Some (records ++ Done r ∷ [])))
+
+-- Whatever the images are: as they are read, the store's files stay, and the queue has the records of before, or these and the
+-- Done that it lacked.
+pub record KeepsRecords {D : Type 0} (seen : D → List ℕ) (old new : Disks D) : Type 0 where
+  pub store_a : seen new.store_a ≡ seen old.store_a
+  pub store_b : seen new.store_b ≡ seen old.store_b
+  pub queue : (queue_as_read seen new ≡ queue_as_read seen old)
+      ⊎ ((queued : List QueueRecord) × (kept : List StoreRecord) × (r : ℕ) × (queue_as_read seen old ≡ Some queued)
+      × (records_at store_at (seen old.store_a) (seen old.store_b) ≡ Some kept) × LacksDone queued kept r
+      × (queue_as_read seen new ≡ Some (queued ++ Done r ∷ [])))
+
+-- ---- at every moment within
+
 -- First the logs are read, which adds no image at any moment. Then the Done is written. At every moment since, each image of the
 -- queue's two disks stands for the history, together with each of the store's.
 pub record OpensWithin {D : Type 0} (seen : D → List ℕ) (may_leave : D → List ℕ → Type 0) (moment : D → ℕ) (left_since : D → ℕ → List ℕ → Type 0) (ttls : Ttls) (old new : Disks D) (history : History) : Type 0 where

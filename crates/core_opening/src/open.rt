@@ -15,6 +15,7 @@ ghost use Rattle.core_opening.specs.Opened.{found_queue, found_store, seen_queue
 ghost use Rattle.core_opening.specs.Opened.{MatchOpening, IsCoreDamage, disks_in, disks_after, IsQueueFault, IsStoreFault, AllAreUntouched, OpeningIsWithin};
 ghost use Rattle.core_opening.specs.Opened.{QueueHolds, StoreHolds, IsLacking, CoreIsReady, IsMadeOf, MatchGathered, as_core, IsAtStart, CoreIsOpened};
 ghost use Rattle.core_opening.specs.Opened.{IsSameCore, fault_in, SameStore, QueueIsLater, WritesDone, MatchMended, CoreStandsForAll, HasLogs, IsUpCore};
+ghost use Rattle.core_opening.specs.Opened.{queue_as_read, HasWritten, KeepsRecords};
 ghost use Rattle.core_opening.specs.Replayed.{IsReading};
 
 use crate::faults::OpenCoreFault;
@@ -198,6 +199,7 @@ fn mend<D: Disk + Drop>(
     ensures store { SameStore state (disks_after result) }
     ensures cause { QueueFaults D.Disk (disks_in state) (disks_after result) (IsQueueFault result) }
     ensures unwritten { IfErr result (λ e. (e.0 ≡ QueueFault → ⊥) → e.1 ≡ disks_in state) }
+    ensures kept { IsTrue D.is_told → IfErr result (λ e. HasWritten missing (found_queue state) (queue_as_read D.seen e.1)) }
 {
     let mut state = state;
     let receipt = match missing {
@@ -241,6 +243,7 @@ pub fn open_state<D: Disk + Drop>(
     ensures any_moment { IsTrue D.is_told → (ttls : Ttls) (history : History) → DisksStand D.may_leave ttls disks history
         → OpeningIsWithin D.Disk ttls disks (disks_after result) history }
     ensures untouched { IfErr result (λ e. (e.0 ≡ QueueFault → ⊥) → AllAreUntouched D.Disk disks e.1) }
+    ensures kept { IsTrue D.is_told → IfErr result (λ e. KeepsRecords D.seen disks e.1) }
 
     ensures queue_cause { QueueFaults D.Disk disks (disks_after result) (IsQueueFault result) }
     ensures store_cause { StoreFaults D.Disk disks (disks_after result) (IsStoreFault result) }

@@ -61,6 +61,7 @@ returns-in-Err-clause-refused g c =
       any_moment = λ told. e.any_moment told;
       leaves = λ told ttls history all. leaves_of d.seen d.may_leave d.moment d.left_since m.counts_now ttls history disks after (e.any_moment told ttls history all);
       untouched = λ other. e.untouched (λ queue. other (ap opening_status queue));
+      kept = e.kept;
       queue_counts = queue_counted after f (d.fault_count disks.queue_a) (d.fault_count after.queue_a) (d.fault_count disks.queue_b) (d.fault_count after.queue_b) e.queue_cause;
       store_counts = store_counted after f (d.fault_count disks.store_a) (d.fault_count after.store_a) (d.fault_count disks.store_b) (d.fault_count after.store_b) e.store_cause;
     } in

@@ -3,7 +3,7 @@ use Rattle.core_state.specs.log_spec.ImageOf.{image_of}
 use Rattle.core_state.specs.log_spec.PairImage.{pair_image}
 use Rattle.core_state.specs.queue_log.Queued.{queue_size}
 use Rattle.core_opening.specs.Opened.{found_queue, found_store, disks_in}
-use Rattle.core_opening.proofs.Opens.{undamaged, stand_found, damage_of, gathered_opening, mended_opening, if_same, goes_on, if_any, opens_untouched, found_stand, store_first, if_map}
+use Rattle.core_opening.proofs.Opens.{undamaged, stand_found, damage_of, gathered_opening, mended_opening, if_same, goes_on, if_any, opens_untouched, found_stand, store_first, if_map, kept_untouched, kept_mended}
 use Rattle.core_opening.proofs.open.open_state.Goals as goal
 
 pub returns-in-Err-clause-never_damaged : goal.returns-in-Err-clause-never_damaged
@@ -71,3 +71,13 @@ returns-in-Ok-clause-up g c = if_map c.mend.result (λ core opened. opened.up) c
 
 pub returns-in-Ok-clause-events : goal.returns-in-Ok-clause-events
 returns-in-Ok-clause-events g c = if_map c.mend.result (λ core opened. opened.events) c.mend.ensures.opened
+
+pub returns-in-Err-clause-kept : goal.returns-in-Err-clause-kept
+returns-in-Err-clause-kept g c told =
+    let d = g.D.Disk in
+    kept_untouched d.seen d.may_leave d.moment d.left_since c.args.disks c.in-Err.disks c.in-Err.ensures.untouched
+
+pub returns-in-Ok-clause-kept : goal.returns-in-Ok-clause-kept
+returns-in-Ok-clause-kept g c told =
+    let u = c.in-Ok.ensures.untouched in
+    kept_mended g.D.Disk.seen c.args.disks c.in-Ok.state c.in-Ok.missing (c.in-Ok.ensures.told told).0 c.in-Ok.ensures.ready.tells c.mend.result u.store_a.same u.store_b.same c.mend.ensures.store (c.mend.ensures.kept told)
