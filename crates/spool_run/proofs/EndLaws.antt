@@ -22,7 +22,7 @@ use Rattle.spool_run.specs.Fronts.{AreInFront, ComesNext, IsReadTo}
 use Rattle.spool_run.specs.Intake as intake
 use Rattle.spool_run.specs.Intake.{TookIn, TookAll, EndsSo}
 use Rattle.spool_run.specs.Steps.{DrainEnds, LastDrained, stopped, settled, BatchDrained, few, many, CommandRefused, CommandTaken, OneTaken, refused, taken, SweepFailed, SweepTaken, SweptDrained, halted, drained, SoFar}
-use Rattle.spool_run.proofs.Readings.{one_more, whole_spool, bad_spool, a_front, nothing_read}
+use Rattle.spool_run.proofs.Readings.{one_more, whole_spool, bad_spool, a_front, were_read, nothing_read}
 use Rattle.spool_run.proofs.Took.{Fresh, took_nothing, took_last, took_end, took_batch, took_command, took_sweep, took_still}
 use Rattle.program_words.specs.json_tree.Limits.{most_payload}
 use Rattle.program_words.specs.spool_spec.Limits.{most_spool}
@@ -180,8 +180,13 @@ module _ {D K : Type 0} (w : Sight D K) (now : ℤ) (bytes : Option (List ℕ)) 
         subst (λ r. EndsSo w now r bytes left a c) (sym same) (took_all (bad_at at) (bad_spool now h.items bytes old p at h.read e bad) k d)
 
   module _ (old left : Option (List ℕ)) (p : ℕ) (a b : CoreState D K) (h : SoFar w now bytes old p a b) where
-    pub not_read : EndsSo w now end.ReadFault bytes left a b
-    not_read = record { items = h.items; spool = a_front now h.items bytes old p h.read; took = h.took; after = (h.up, record { few = h.few; whole = h.whole }) }
+    pub not_read : next.StopsIn now p old left → EndsSo w now end.ReadFault bytes left a b
+    not_read stops = record {
+      items = h.items;
+      spool = a_front now h.items bytes old p h.read;
+      took = h.took;
+      after = (h.up, record { few = h.few; whole = h.whole }, were_read now h.items bytes old left p h.read stops);
+    }
 
     pub no_memory : EndsSo w now end.Memory bytes left a b
     no_memory = record { items = h.items; spool = a_front now h.items bytes old p h.read; took = took_last w now bytes h.items a b h.took; after = h.up }

@@ -1,12 +1,12 @@
 -- What has been read of a spool, with one item more and at its end.
-use Rattle.std.proofs.Common.{◌≡◌, ◌≢◌, ◌∙◌, refl, sym, ap, subst, ℕ, ◌+◌, ◌≤◌, suc, ℤ, List, [], ◌∷◌, ◌++◌, length, length-append, arith, Option, Some, None, IfSome}
+use Rattle.std.proofs.Common.{◌≡◌, ◌≢◌, ◌∙◌, refl, sym, ap, subst, ℕ, ◌+◌, ◌≤◌, suc, ℤ, List, [], ◌∷◌, ◌++◌, length, length-append, append_assoc, arith, Option, Some, None, IfSome}
 use Rattle.std.specs.Io.KnownBytes.{IsAtEnd, prepend_known}
 use Rattle.fleet_hub.specs.history_spec.Thread.{Item}
 use Rattle.program_words.specs.spool_spec.Spool.{End, whole, bad_at, IsItemText, BeginsWithItem, ItemsFrom, SpoolOf}
 use Rattle.spool_text.specs.Next as next
 use Rattle.spool_text.proofs.of_history_laws.FirstLines.{first_lines_are_short}
 use Rattle.spool_text.proofs.of_history_laws.Spools.{item_texts_are_one, bytes_have_some_reading}
-use Rattle.spool_run.specs.Fronts.{AreInFront, StandFrom, IsReadTo}
+use Rattle.spool_run.specs.Fronts.{AreInFront, WereRead, StandFrom, IsReadTo}
 use Rattle.program_words.specs.spool_spec.Limits.{most_spool}
 
 -- ---- one item more
@@ -61,6 +61,32 @@ bad_spool now items None rest q at h e b = tt
 bad_spool now items (Some bytes) None q at h e b = absurd h
 bad_spool now items (Some bytes) (Some rest) q at h e b =
     subst (λ n. SpoolOf now bytes items (bad_at n)) (sym e) (ends_bad now items 0 bytes q rest h (subst (λ n. next.IsBad now n rest) e b))
+
+-- ---- where reading failed
+
+-- bytes that begin with no item have none
+no_items : (now : ℤ) (p : ℕ) (bytes : List ℕ) → (BeginsWithItem now p bytes → ⊥) → (end : End) × ItemsFrom now p bytes [] end
+no_items now p [] none = (whole, refl)
+no_items now p (b ∷ bytes) none = (bad_at p, (refl, (λ e. cc), none))
+
+read_front : (now : ℤ) (taken rest : List ℕ) (items : List Item) (p : ℕ) (bytes : List ℕ) (q : ℕ) → StandFrom now p bytes items q (taken ++ rest) → (BeginsWithItem now q taken → ⊥)
+    → (front : List ℕ) × (bytes ≡ front ++ rest) × (end : End) × ItemsFrom now p front items end
+read_front now taken rest [] p bytes q h none = (taken, h.1, no_items now p taken (subst (λ n. BeginsWithItem now n taken → ⊥) (sym h.0) none))
+read_front now taken rest (item ∷ items) p bytes q h none =
+    let behind = read_front now taken rest items (p + length h.0) h.1 q h.5 none in (
+      h.0 ++ behind.0,
+      h.3 ∙ ap (λ xs. h.0 ++ xs) behind.1 ∙ sym (append_assoc h.0 behind.0 rest),
+      behind.2,
+      (h.0, behind.0, h.2, refl, h.4, behind.3),
+    )
+
+pub were_read : (now : ℤ) (items : List Item) (bytes old rest : Option (List ℕ)) (q : ℕ) → IsReadTo now bytes items q old → next.StopsIn now q old rest → WereRead now bytes rest items
+were_read now items None old rest q h s = tt
+were_read now items (Some bytes) None rest q h s = absurd h
+were_read now items (Some bytes) (Some left) None q h s = absurd s.is_taken
+were_read now items (Some bytes) (Some left) (Some rest) q h s =
+    let front = read_front now s.taken rest items 0 bytes q (subst (StandFrom now 0 bytes items q) s.is_taken h) s.no_item in
+    (front.0, front.1, (front.2, front.3))
 
 -- ---- a front
 

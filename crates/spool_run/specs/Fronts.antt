@@ -1,5 +1,6 @@
 -- How much of a spool has been read.
 use Rattle.std.specs.Prelude.{◌≡◌, ℕ, ◌+◌, ◌≤◌, ℤ, List, [], ◌∷◌, ◌++◌, length, Option, Some, None, IfSome}
+use Rattle.std.specs.Io.KnownBytes.{Consumes}
 use Rattle.fleet_hub.specs.history_spec.Thread.{Item}
 use Rattle.program_words.specs.spool_spec.Spool.{End, IsItemText, SpoolOf}
 use Rattle.program_words.specs.spool_spec.Limits.{most_spool}
@@ -11,6 +12,10 @@ AreInFront now items bytes = (more : List Item) × (end : End) × SpoolOf now by
 -- this item comes next after these
 abbrev pub ComesNext : ℤ → Option (List ℕ) → List Item → Item → Type 0
 ComesNext now bytes items item = IfSome bytes (AreInFront now (items ++ item ∷ []))
+
+-- The items are those of the bytes that were read, which `rest` follows: no further item stood whole there.
+abbrev pub WereRead : ℤ → Option (List ℕ) → Option (List ℕ) → List Item → Type 0
+WereRead now bytes rest items = IfSome bytes (λ all. (front : List ℕ) × Consumes (Some all) rest front × (end : End) × SpoolOf now front items end)
 
 -- the bytes from offset p on are these items, and from offset q on the rest
 abbrev pub StandFrom : ℤ → ℕ → List ℕ → List Item → ℕ → List ℕ → Type 0

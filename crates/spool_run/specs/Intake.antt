@@ -22,7 +22,7 @@ use Rattle.fleet_hub.specs.core_drain.Ends.{HasNoRoom, QueueRose, LacksDone, Ros
 use Rattle.spool_run.specs.declared.ends.SpoolEnd.{SpoolEnd}
 use Rattle.spool_run.specs.declared.ends.SpoolEnd.TheVariants as end
 use Rattle.spool_run.specs.Rules.{NothingIsDue, HasNoRestart, KeepsRules}
-use Rattle.spool_run.specs.Fronts.{AreInFront, ComesNext}
+use Rattle.spool_run.specs.Fronts.{AreInFront, ComesNext, WereRead}
 use Rattle.program_words.specs.json_tree.Limits.{most_payload}
 
 -- ---- what may be written meanwhile
@@ -110,7 +110,7 @@ pub data IsSpent {D K : Type 0} (w : Sight D K) (now : ℤ) (bytes : Option (Lis
 abbrev pub EndsSo : {D K : Type 0} → Sight D K → ℤ → SpoolEnd → Option (List ℕ) → Option (List ℕ) → CoreState D K → CoreState D K → Type 0
 EndsSo w now end.Done bytes rest old new = TookAll w now bytes whole old new × IsAtEnd rest
 EndsSo w now (end.Bad at) bytes rest old new = TookAll w now bytes (bad_at at) old new
-EndsSo w now end.ReadFault bytes rest old new = TookSome w now false bytes old new (λ more items. (is_down w new ≡ false) × NothingIsDue more new.pending)
+EndsSo w now end.ReadFault bytes rest old new = TookSome w now false bytes old new (λ more items. (is_down w new ≡ false) × NothingIsDue more new.pending × WereRead now bytes rest items)
 EndsSo w now end.QueueFault bytes rest old new =
     TookSome w now false bytes old new (λ more items. QueueRose w old new × (w.store_down new.store ≡ false) × NothingIsDue more new.pending × (c : Command) × ComesNext now bytes items (command c))
     ⊎ TookSome w now true bytes old new (λ more items. QueueRose w old new × (w.store_down new.store ≡ false) × (LacksDone w old new ⊎ SomethingWaits w old new))

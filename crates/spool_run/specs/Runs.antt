@@ -30,7 +30,7 @@ use Rattle.fleet_hub.specs.core_course.Sight.{Sight, sight, is_down}
 use Rattle.fleet_hub.specs.core_course.Courses.{Course, Passed}
 use Rattle.fleet_hub.specs.core_drain.Ends.{LacksDone, SomethingWaits}
 use Rattle.spool_run.specs.Rules.{NothingIsDue, HasNoRestart, KeepsRules}
-use Rattle.spool_run.specs.Fronts.{AreInFront, ComesNext}
+use Rattle.spool_run.specs.Fronts.{AreInFront, ComesNext, WereRead}
 use Rattle.spool_run.specs.Intake.{MayTake, WorkIsLeft, SweepComes, SubmitIsSpent, IsSpent}
 use Rattle.calm_commands.specs.declared.status.Status.{Status}
 use Rattle.calm_commands.specs.declared.status.Status.TheVariants as status
@@ -150,9 +150,9 @@ pub record RanSome {D : Type 0} (w : DiskSight D) (now : ℤ) (due down : Bool) 
 abbrev pub NotOpened : {D : Type 0} → DiskSight D → Disks D → Disks D → Status → Stream → Stream → Type 0
 NotOpened w disks after answer spool spool_after = IsUnopened w disks after answer × (spool_after ≡ spool)
 
--- no batch limit is reached, and no drain is unfinished
-abbrev pub NoBatch : {D : Type 0} → History → List Item → LogCore D → LogCore D → Type 0
-NoBatch more items old new = NothingIsDue more new.pending
+-- no batch limit is reached, and no drain is unfinished; and every item came in that was read whole
+abbrev pub NoBatch : {D : Type 0} → ℤ → Option (List ℕ) → Option (List ℕ) → History → List Item → LogCore D → LogCore D → Type 0
+NoBatch now spool spool_after more items old new = NothingIsDue more new.pending × WereRead now spool spool_after items
 
 -- and a command comes next
 abbrev pub CommandComes : {D : Type 0} → ℤ → Option (List ℕ) → History → List Item → LogCore D → LogCore D → Type 0
@@ -189,7 +189,7 @@ RunEnds (status.SpoolBad at) w now spool spool_after out out_after disks after =
     RanThrough w now (bad_at at) spool.bytes disks after (Appends out.bytes out_after.bytes)
 RunEnds status.WriteFault w now spool spool_after out out_after disks after =
     (end : End) × RanThrough w now end spool.bytes disks after (λ text. AppendsLess text out.bytes out_after.bytes) × (end ≡ whole → IsAtEnd spool_after.bytes)
-RunEnds status.ReadFault w now spool spool_after out out_after disks after = RanSome w now false false spool.bytes disks after NoBatch
+RunEnds status.ReadFault w now spool spool_after out out_after disks after = RanSome w now false false spool.bytes disks after (NoBatch now spool.bytes spool_after.bytes)
 RunEnds status.QueueFault w now spool spool_after out out_after disks after =
     NotOpened w disks after status.QueueFault spool spool_after
     ⊎ ((down : Bool) × RanSome w now false down spool.bytes disks after (CommandComes now spool.bytes))

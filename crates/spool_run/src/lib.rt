@@ -30,7 +30,7 @@
 //! | Done | all items; nothing is pending, and the output is the summary of four lines |
 //! | SpoolBad | the items before the malformed one, at its byte; otherwise as Done |
 //! | WriteFault | as Done or SpoolBad, with a proper prefix of the summary |
-//! | ReadFault | a prefix of the items; no batch or unfinished drain is pending |
+//! | ReadFault | the items of the bytes that were read; no batch or unfinished drain is pending |
 //! | QueueFault | a prefix; a command comes next or is pending, or the last applied one lacks its Done |
 //! | StoreDown | a prefix; a command is pending, or a sweep comes next |
 //! | StoreFault | a prefix; a sweep comes next, and nothing is pending |

@@ -19,10 +19,11 @@ use Rattle.history_laws.proofs.ReadingStands.{what_is_read_is_an_item_text}
 use Rattle.spool_text.specs.declared.first_line.FirstLine.{FirstLine}
 use Rattle.spool_text.specs.declared.first_line.FirstLine.TheVariants as first
 use Rattle.spool_text.specs.FirstLine.{first_line_at, item_after}
-use Rattle.spool_text.specs.Unread.{HasLine, HasNoLine}
+use Rattle.spool_text.specs.Unread.{HasLine, HasNoLine, IsShort}
 use Rattle.spool_text.specs.declared.item.NextItem.{NextItem}
 use Rattle.spool_text.specs.declared.item.NextItem.TheVariants as next
-use Rattle.spool_text.specs.Next.{Gives, IsBad, IfItem, IfBad}
+use Rattle.spool_text.specs.Next.{Gives, IsBad, StopsIn, IfItem, IfBad}
+use Rattle.spool_text.proofs.Pieces.{no_byte}
 use Rattle.spool_text.proofs.LinesJoined.{item_at-line}
 use Rattle.history_laws.specs.spool_spec.Limits.{most_spool}
 
@@ -181,6 +182,59 @@ module _ (received : ℤ) (p n : ℕ) (bytes : List ℕ) (h : HasLine n bytes) w
 
     pub no_feed_after : (after : List ℕ) (left behind : Option (List ℕ)) (payload : List ℕ) → after ≡ drop (n + 1) bytes → length payload ≡ size → Consumes (prepend_known after left) behind payload → IfSome behind (λ all. one_of 10 10 all ≡ None) → IfSome (prepend_known bytes left) (IsBad received p)
     no_feed_after after left behind payload e s t k = no_feed_behind left behind payload s (subst (λ xs. Consumes (prepend_known xs left) behind payload) e t) k
+
+    -- a part of its payload, or a payload without a line feed, ends no item
+    payload_cut : (part : List ℕ) → length part < size → ¬ BeginsWithItem received p ((take n bytes ++ 10 ∷ []) ++ part)
+    payload_cut part short =
+        subst (λ xs. BeginsWithItem received p xs → ⊥) (sym (append_assoc (take n bytes) (10 ∷ []) part))
+        (unread_is_bad received p (take n bytes ++ 10 ∷ part) (by_first_line received (take n bytes) part h.no_feed (first.Command kind version size) is_first ∙ cut_short received kind version size part short))
+
+    feed_lacks : (payload : List ℕ) → length payload ≡ size → ¬ BeginsWithItem received p ((take n bytes ++ 10 ∷ []) ++ payload)
+    feed_lacks payload s =
+        let none : item_after received (first.Command kind version size) payload ≡ None =
+        ap (item_after received (first.Command kind version size)) (sym (append-nil payload)) ∙ payload_then received kind version size payload [] s
+        ∙ ap (λ o. o >>= (λ (r : List ℕ). Some (command (record { kind = kind; version = version; received = received; payload = payload }), r))) (no_byte (Some []) (Some []) refl refl) in
+        subst (λ xs. BeginsWithItem received p xs → ⊥) (sym (append_assoc (take n bytes) (10 ∷ []) payload))
+        (unread_is_bad received p (take n bytes ++ 10 ∷ payload) (by_first_line received (take n bytes) payload h.no_feed (first.Command kind version size) is_first ∙ none))
+
+    pub stops_in_payload : (after : List ℕ) (left rest : Option (List ℕ)) → after ≡ drop (n + 1) bytes → IsShort size (prepend_known after left) rest → StopsIn received p (prepend_known bytes left) rest
+    stops_in_payload after left rest e s = record {
+      taken = (take n bytes ++ 10 ∷ []) ++ s.part;
+      is_taken =
+          Consumes-trans (prepend_known bytes left) (prepend_known (drop (n + 1) bytes) left) rest (take n bytes ++ 10 ∷ []) s.part (takes_line n bytes left h)
+          (subst (λ xs. Consumes (prepend_known xs left) rest s.part) e s.is_taken);
+      no_item = payload_cut s.part s.short;
+    }
+
+    pub stops_at_feed : (after payload : List ℕ) (left behind rest : Option (List ℕ)) → after ≡ drop (n + 1) bytes → length payload ≡ size → Consumes (prepend_known after left) behind payload → Consumes behind rest []
+        → StopsIn received p (prepend_known bytes left) rest
+    stops_at_feed after payload left behind rest e s taken none = record {
+      taken = (take n bytes ++ 10 ∷ []) ++ payload;
+      is_taken =
+          Consumes-trans (prepend_known bytes left) (prepend_known (drop (n + 1) bytes) left) rest (take n bytes ++ 10 ∷ []) payload (takes_line n bytes left h)
+          (subst (Consumes (prepend_known (drop (n + 1) bytes) left) rest) (append-nil payload)
+          (Consumes-trans (prepend_known (drop (n + 1) bytes) left) behind rest payload [] (subst (λ xs. Consumes (prepend_known xs left) behind payload) e taken) none));
+      no_item = feed_lacks payload s;
+    }
+
+-- ---- a read failed before a first line was there
+
+pub stops_in_line : (received : ℤ) (p : ℕ) (bytes : List ℕ) (old rest : Option (List ℕ)) → Keeps old (prepend_known bytes rest) → HasNoLine bytes → StopsIn received p old rest
+stops_in_line received p bytes old rest kept none = record { taken = bytes; is_taken = all_taken old rest kept; no_item = no_line_is_bad received p bytes none }
+  where
+    all_taken : (old rest : Option (List ℕ)) → Keeps old (prepend_known bytes rest) → Consumes old rest bytes
+    all_taken None rest kept = tt
+    all_taken (Some xs) None kept = absurd kept
+    all_taken (Some xs) (Some ys) kept = sym kept
+
+pub kept_stops : (received : ℤ) (p : ℕ) (old mid rest : Option (List ℕ)) → Keeps old mid → StopsIn received p mid rest → StopsIn received p old rest
+kept_stops received p old mid rest kept s = record { taken = s.taken; is_taken = step old mid rest kept s.is_taken; no_item = s.no_item }
+  where
+    step : (old mid rest : Option (List ℕ)) → Keeps old mid → Consumes mid rest s.taken → Consumes old rest s.taken
+    step None mid rest h k = tt
+    step (Some x) None rest h k = absurd h
+    step (Some x) (Some y) None h k = k
+    step (Some x) (Some y) (Some z) h k = sym h ∙ k
 
 -- ---- an item is given
 

@@ -1,10 +1,11 @@
 -- Lines and line feeds at the front of the bytes.
-use Rattle.std.proofs.Common.{◌≡◌, ◌≢◌, ◌∙◌, ℕ, zero, suc, ◌+◌, ◌≤◌, List, [], ◌∷◌, ◌++◌, length, take, get_or, arith, refl, sym, ap, subst, Bool, true, false, eqb, if◌then◌else◌, ◌||◌, Option, Some, None, IfSome, length-append}
+use Rattle.std.proofs.Common.{◌≡◌, ◌≢◌, ◌∙◌, ℕ, zero, suc, ◌+◌, ◌≤◌, ◌<◌, List, [], ◌∷◌, ◌++◌, length, take, get_or, arith, refl, sym, ap, subst, Bool, true, false, eqb, if◌then◌else◌, ◌||◌, Option, Some, None, IfSome, length-append}
 use Rattle.std.specs.List.{AllByRecursion}
-use Rattle.std.proofs.lemmas.List.{take_all, take-append-le}
+use Rattle.std.proofs.lemmas.List.{take_all, take-append-le, length-take-le}
 use Rattle.std.specs.Io.KnownBytes.{Keeps, Consumes, IsAtEnd, prepend_known}
+use Rattle.std.proofs.KnownBytes.{Consumes-kept, prepend_known-nil}
 use Rattle.text_spec.specs.StampReader.{one_of}
-use Rattle.spool_text.specs.Unread.{HasNoLine}
+use Rattle.spool_text.specs.Unread.{HasNoLine, IsShort}
 
 -- ---- lines
 
@@ -46,3 +47,28 @@ unfolding one_of
 no_byte None new h k = tt
 no_byte (Some all) None h k = absurd h
 no_byte (Some all) (Some ys) h k = ap (one_of 10 10) (sym h ∙ k)
+
+-- ---- a read failed, and nothing was buffered
+
+no_bytes : (bs : List ℕ) → length bs ≡ 0 → bs ≡ []
+no_bytes [] h = refl
+no_bytes (b ∷ bs) h = absurd (omega (arith, h))
+
+pub stops_short : (old mid rest : Option (List ℕ)) (bs body : List ℕ) (filled size : ℕ) → Consumes old mid (take filled body) → Keeps mid (prepend_known bs rest) → length bs ≡ 0 → filled ≤ length body → filled < size
+    → IsShort size old rest
+stops_short old mid rest bs body filled size gone kept none inside fewer = record {
+  part = take filled body;
+  is_taken =
+      subst (λ r. Consumes old r (take filled body)) (ap (λ xs. prepend_known xs rest) (no_bytes bs none) ∙ prepend_known-nil rest)
+      (Consumes-kept old mid (prepend_known bs rest) (take filled body) gone kept);
+  short = omega (arith, length-take-le filled body inside, fewer);
+}
+
+pub stops_here : (old rest : Option (List ℕ)) (bs : List ℕ) → Keeps old (prepend_known bs rest) → length bs ≡ 0 → Consumes old rest []
+stops_here old rest bs kept none =
+    subst (λ r. Consumes old r []) (ap (λ xs. prepend_known xs rest) (no_bytes bs none) ∙ prepend_known-nil rest) (nothing_taken old (prepend_known bs rest) kept)
+  where
+    nothing_taken : (a b : Option (List ℕ)) → Keeps a b → Consumes a b []
+    nothing_taken None b h = tt
+    nothing_taken (Some xs) None h = h
+    nothing_taken (Some xs) (Some ys) h = sym h

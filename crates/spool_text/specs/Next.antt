@@ -49,6 +49,13 @@ pub record Gives (received : ℤ) (item : Item) (p q : ℕ) (old new : Option (L
   pub taken : Consumes old new text
   pub counted : q ≡ p + length text
 
+-- The bytes that were taken begin with no item, and `rest` follows them. So a read that failed was asked for: no item stood whole
+-- before it.
+pub record StopsIn (received : ℤ) (p : ℕ) (old rest : Option (List ℕ)) : Type 0 where
+  pub taken : List ℕ
+  pub is_taken : Consumes old rest taken
+  pub no_item : ¬ BeginsWithItem received p taken
+
 -- bytes are left, and from byte p on they begin with no item
 pub record IsBad (received : ℤ) (p : ℕ) (bytes : List ℕ) : Type 0 where
   pub some : bytes ≢ []

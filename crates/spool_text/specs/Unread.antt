@@ -38,7 +38,7 @@ abbrev pub IsFront : Front → List ℕ → Option (List ℕ) → Type 0
 IsFront (front.Line n) bytes left = HasLine n bytes × (n < 201)
 IsFront front.NoLine bytes left = IfSome left (λ all. (all ≢ []) × HasNoLine all)
 IsFront front.Nothing bytes left = IsAtEnd left
-IsFront front.Failed bytes left = Unit {0}
+IsFront front.Failed bytes left = HasNoLine bytes
 
 -- the payload was taken, or fewer bytes than its length remain
 abbrev pub IsPayload : Payload → ℕ → Option (List ℕ) → Option (List ℕ) → Type 0
@@ -46,6 +46,12 @@ IsPayload (payload.Whole bytes) size old new = (length bytes.items ≡ size) × 
 IsPayload payload.Cut size old new = IfSome old (λ all. length all < size)
 IsPayload payload.Failed size old new = Unit {0}
 IsPayload payload.Memory size old new = Unit {0}
+
+-- fewer bytes than this were taken, and `rest` follows them
+pub record IsShort (size : ℕ) (old rest : Option (List ℕ)) : Type 0 where
+  pub part : List ℕ
+  pub is_taken : Consumes old rest part
+  pub short : length part < size
 
 -- a line feed was taken, or the bytes don't begin with one
 abbrev pub IsFeed : Feed → Option (List ℕ) → Option (List ℕ) → Type 0

@@ -67,7 +67,7 @@ pub(crate) enum Feed {
 }
 
 impl Piece {
-    ghost use Rattle.spool_text.specs.Unread.{buffered, HasLine, HasNoLine, IsFront, IsPayload, IsFeed, Grows};
+    ghost use Rattle.spool_text.specs.Unread.{buffered, HasLine, HasNoLine, IsFront, IsPayload, IsFeed, IsShort, Grows};
 
     /// An empty buffer.
     pub(crate) fn new(alloc: Global) -> Piece
@@ -166,6 +166,7 @@ impl Piece {
         requires some { 0 < length into.old }
         ensures bytes { Takes result into.new (prepend_known (buffered self.old) (S.left source.old))
             (prepend_known (buffered self.new) (S.left source.new)) }
+        ensures none { result ≡ Took.Failed → length (buffered self.new) ≡ 0 }
         ensures room { vec_len self.new.bytes ≡ vec_len self.old.bytes }
         ensures cause { Counts (S.fault_count source.old) (S.fault_count source.new) (result ≡ Took.Failed) }
     {
@@ -240,6 +241,8 @@ impl Piece {
             (prepend_known (buffered self.new) (S.left source.new)) }
         ensures lost { LosesUpTo size (prepend_known (buffered self.old) (S.left source.old))
             (prepend_known (buffered self.new) (S.left source.new)) }
+        ensures fault { result ≡ Payload.Failed
+            → IsShort size (prepend_known (buffered self.old) (S.left source.old)) (S.left source.new) }
         ensures room { vec_len self.new.bytes ≡ vec_len self.old.bytes }
         ensures cause { Counts (S.fault_count source.old) (S.fault_count source.new) (result ≡ Payload.Failed) }
     {
@@ -265,6 +268,8 @@ impl Piece {
             (prepend_known (buffered self.new) (S.left source.new)) }
         ensures lost { LosesUpTo 1 (prepend_known (buffered self.old) (S.left source.old))
             (prepend_known (buffered self.new) (S.left source.new)) }
+        ensures fault { result ≡ Feed.Failed
+            → Consumes (prepend_known (buffered self.old) (S.left source.old)) (S.left source.new) [] }
         ensures room { vec_len self.new.bytes ≡ vec_len self.old.bytes }
         ensures cause { Counts (S.fault_count source.old) (S.fault_count source.new) (result ≡ Feed.Failed) }
     {

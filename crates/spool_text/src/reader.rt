@@ -28,7 +28,7 @@ pub(crate) struct ItemReader {
 impl ItemReader {
     ghost use Rattle.spool_text.specs.FirstLine.{first_line_at};
     ghost use Rattle.spool_text.specs.Unread.{buffered, HasLine};
-    ghost use Rattle.spool_text.specs.Next.{IfItem, IfNoItem, IfBad, Gives, IsBad};
+    ghost use Rattle.spool_text.specs.Next.{IfItem, IfNoItem, IfBad, Gives, IsBad, StopsIn};
     ghost use Rattle.spool_text.specs.Lost.{most_item, LosesUpTo};
     ghost use Rattle.spool_text.specs.Inside.{unread, place, reading_of};
 
@@ -52,6 +52,8 @@ impl ItemReader {
         ensures item { IfItem result (λ item. Gives received item (place self.old) (place self.new)
             (unread self.old (S.left source.old)) (unread self.new (S.left source.new))) }
         ensures stays { IfNoItem result (place self.new ≡ place self.old) }
+        ensures fault { result ≡ NextItem.ReadFault
+            → StopsIn received (place self.old) (unread self.old (S.left source.old)) (S.left source.new) }
         ensures lost { IfNoItem result (LosesUpTo most_item (unread self.old (S.left source.old)) (unread self.new (S.left source.new))) }
         ensures end { result ≡ NextItem.End → IsAtEnd (unread self.old (S.left source.old)) }
         ensures read_to_the_end { result ≡ NextItem.End → IsAtEnd (S.left source.new) }
@@ -85,6 +87,8 @@ impl ItemReader {
         ensures item { IfItem result (λ item. Gives received item (place self.old) (place self.new)
             (unread self.old (S.left source.old)) (unread self.new (S.left source.new))) }
         ensures stays { IfNoItem result (place self.new ≡ place self.old) }
+        ensures fault { result ≡ NextItem.ReadFault
+            → StopsIn received (place self.old) (unread self.old (S.left source.old)) (S.left source.new) }
         ensures lost { IfNoItem result (LosesUpTo most_item (unread self.old (S.left source.old)) (unread self.new (S.left source.new))) }
         ensures not_end { result ≢ NextItem.End }
         ensures bad { IfBad result (λ at. (at ≡ place self.old)
@@ -125,6 +129,8 @@ impl ItemReader {
         ensures item { IfItem result (λ item. Gives received item (place self.old) (place self.new)
             (unread self.old (S.left source.old)) (unread self.new (S.left source.new))) }
         ensures stays { IfNoItem result (place self.new ≡ place self.old) }
+        ensures fault { result ≡ NextItem.ReadFault
+            → StopsIn received (place self.old) (unread self.old (S.left source.old)) (S.left source.new) }
         ensures lost { IfNoItem result (LosesUpTo most_item (unread self.old (S.left source.old)) (unread self.new (S.left source.new))) }
         ensures not_end { result ≢ NextItem.End }
         ensures bad { IfBad result (λ at. (at ≡ place self.old)

@@ -2,7 +2,7 @@
 ghost use Rattle.std.specs.Prelude.{◌≡◌, ◌≤◌, ◌<◌, [], IfSome};
 ghost use Rattle.std.specs.Io.KnownBytes.{IsAtEnd};
 ghost use Rattle.spool_maker.specs.fleet_ports.Counts.{Counts};
-ghost use Rattle.spool_text.specs.Next.{unread, place, IfItem, IfNoItem, IfBad, Gives, IsBad};
+ghost use Rattle.spool_text.specs.Next.{unread, place, IfItem, IfNoItem, IfBad, Gives, IsBad, StopsIn};
 ghost use Rattle.spool_text.specs.Lost.{most_item, LosesUpTo};
 ghost use Rattle.spool_text.specs.Owned.{source_of, left_of, given_of};
 ghost use Rattle.history_laws.specs.spool_spec.Limits.{most_spool};
@@ -50,8 +50,11 @@ impl SpoolReader {
         ensures more { IfItem result (λ item. place self.old < place self.new) }
         ensures within { place self.new ≤ most_spool }
 
-        // Without an item the count of bytes is unchanged, and at most one item's bytes are lost.
+        // Without an item the count of bytes is unchanged, and at most one item's bytes are lost. Before a read that failed no item
+        // stood whole. Any read may fail, so none is made while an item stands there.
         ensures stays { IfNoItem result (place self.new ≡ place self.old) }
+        ensures fault { result ≡ NextItem.ReadFault
+            → StopsIn received (place self.old) (unread self.old (S.left source.old)) (S.left source.new) }
         ensures lost { IfNoItem result (LosesUpTo most_item (unread self.old (S.left source.old))
             (unread self.new (S.left source.new))) }
 
@@ -102,6 +105,8 @@ impl<S: Source + Drop> Spool<S> {
         ensures more { IfItem result (λ item. given_of self.old < given_of self.new) }
         ensures within { given_of self.new ≤ most_spool }
         ensures stays { IfNoItem result (given_of self.new ≡ given_of self.old) }
+        ensures fault { result ≡ NextItem.ReadFault
+            → StopsIn received (given_of self.old) (left_of S.left self.old) (S.left (source_of self.new)) }
         ensures lost { IfNoItem result (LosesUpTo most_item (left_of S.left self.old) (left_of S.left self.new)) }
         ensures end { result ≡ NextItem.End → IsAtEnd (left_of S.left self.old) }
         ensures read_to_the_end { result ≡ NextItem.End → IsAtEnd (S.left (source_of self.new)) }

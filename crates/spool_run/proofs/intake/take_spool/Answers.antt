@@ -120,7 +120,7 @@ returns-in-ReadFault-clause-ends g c =
     let bytes = g.S.Source.left c.args.spool.now in
     let old = unread c.items.reader (g.S.Source.left c.items.spool) in
     let p = place c.items.reader in
-    not_read w now bytes old (g.S.Source.left c.next_item.new.source) p c.args.core c.items.core c.items.invariant.so_far
+    not_read w now bytes old (g.S.Source.left c.next_item.new.source) p c.args.core c.items.core c.items.invariant.so_far (c.in-ReadFault.ensures.fault refl)
 
 pub returns-in-Memory-clause-ends : goal.returns-in-Memory-clause-ends
 returns-in-Memory-clause-ends g c =

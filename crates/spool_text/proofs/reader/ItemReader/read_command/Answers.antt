@@ -1,7 +1,7 @@
-use Rattle.std.proofs.Common.{arith, refl}
+use Rattle.std.proofs.Common.{arith, refl, rules}
 use Rattle.spool_text.specs.declared.first_line.FirstLine.TheVariants as first
 use Rattle.spool_text.specs.Unread.{buffered}
-use Rattle.spool_text.proofs.Items.{far_line, cut_payload, no_feed_after, gives_command}
+use Rattle.spool_text.proofs.Items.{far_line, cut_payload, no_feed_after, stops_in_payload, stops_at_feed, gives_command}
 use Rattle.spool_text.proofs.Losses.{loses_part, loses_payload}
 use Rattle.spool_text.proofs.reader.ItemReader.read_command.Goals as goal
 
@@ -46,3 +46,13 @@ returns-in-Failed-clause-lost g c =
 pub returns-in-Memory-clause-lost : goal.returns-in-Memory-clause-lost
 returns-in-Memory-clause-lost g c =
     loses_payload c.args.len c.args.size (buffered c.args.self.now.piece) _ (g.S.Source.left c.args.source.now) _ c.requires.line c.requires.short c.advance.ensures.rest c.requires.small c.take_payload.ensures.lost
+
+pub returns-in-Failed-take_feed-clause-fault : goal.returns-in-Failed-take_feed-clause-fault
+returns-in-Failed-take_feed-clause-fault g c = λ _.
+    stops_at_feed c.args.received c.args.self.now.given c.args.len (buffered c.args.self.now.piece) c.requires.line c.args.kind c.args.version c.args.size c.requires.first _ c.in-Whole.payload.items (g.S.Source.left c.args.source.now) _ _ c.advance.ensures.rest c.in-Whole.ensures.payload.0 c.in-Whole.ensures.payload.1
+    (c.take_feed.ensures.fault (search rules))
+
+pub returns-in-Failed-clause-fault : goal.returns-in-Failed-clause-fault
+returns-in-Failed-clause-fault g c = λ _.
+    stops_in_payload c.args.received c.args.self.now.given c.args.len (buffered c.args.self.now.piece) c.requires.line c.args.kind c.args.version c.args.size c.requires.first _ (g.S.Source.left c.args.source.now) _ c.advance.ensures.rest
+    (c.take_payload.ensures.fault (search rules))
