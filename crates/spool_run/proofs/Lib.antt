@@ -6,6 +6,7 @@ pub mod EndLaws
 pub mod OneThread
 mod Printing
 mod Fails
+mod Effects
 mod Ran
 pub mod RunEnds
 pub mod LimitValues

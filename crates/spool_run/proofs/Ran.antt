@@ -13,7 +13,7 @@ use Rattle.fleet_hub.specs.store_records.Reading.{store_at}
 use Rattle.fleet_hub.specs.core_spec.declared.event.Event.TheVariants.{Restart}
 use Rattle.fleet_hub.specs.core_spec.History.{History, command, trace_of}
 use Rattle.fleet_hub.specs.core_spec.Legal.{IsAfterFails, IsLegal}
-use Rattle.fleet_hub.specs.core_spec.Pending.{pending_of}
+use Rattle.fleet_hub.specs.core_spec.Pending.{pending_of, NoneIsWornOut}
 use Rattle.fleet_hub.specs.core_spec.Thread.{one_thread}
 use Rattle.fleet_hub.specs.core_laws.Outcomes.{endings}
 use Rattle.fleet_hub.specs.core_laws.Threads.{dropped}
@@ -37,6 +37,7 @@ use Rattle.fleet_hub.specs.core_drain.Ends.{RoseBehindFails}
 use Rattle.spool_run.proofs.Fails.{fails_fit, together, none_rose}
 use Rattle.spool_run.specs.Summary.{summary_text}
 use Rattle.spool_run.specs.Runs.{Took, DisksLeft, fail_count, StoreRoseBy, StoreRoseBehind, log_sight, IsSoundCore, RanOn, RanThrough, RanSome, QueueRose, QueueIsLater}
+use Rattle.spool_run.proofs.Effects.{takes_effect}
 use Rattle.spool_run.proofs.Printing.{tally_behind}
 
 -- ---- items
@@ -145,6 +146,9 @@ module _ {D : Type 0} (w : DiskSight D) (disks : Disks D) (opened : LogCore D) (
         stands_now calm qa qb sa sb ia ib ja jb =
             ⊎_elim (λ here. here) (λ amid. absurd (let apart : false ≡ true = amid.0 in cc)) ((left_now false calm).each qa qb sa sb ia ib ja jb)
 
+        pub few_at_first : NoneIsWornOut (pending_of (Restart ∷ start))
+        few_at_first = subst (λ (h : History). NoneIsWornOut (pending_of h)) begun stood.holds.says.plain.few
+
         pub none_waits : ended.pending ≡ [] → pending_of (t.more ++ Restart ∷ start) ≡ []
         none_waits none = subst (λ (h : History). pending_of h ≡ []) goes_on (sym stood_now.holds.says.pending ∙ none)
 
@@ -207,6 +211,9 @@ module _ {D : Type 0} (w : DiskSight D) (disks : Disks D) (opened : LogCore D) (
             ended_once = once_now true all.items t told ttls start stand one;
             rows_are = one_thread_now true all.items t told ttls start stand one;
           });
+          take_effect = λ told ttls start stand calm.
+              takes_effect ttls start t.more (took_now true all.items t told ttls start stand).legal (none_waits true all.items t told ttls start stand all.nothing)
+              (few_at_first true all.items t told ttls start stand) ((ran_on true all.items t false all.up).no_fails told ttls start stand calm);
           leaves = λ told ttls start stand. stands_now true all.items t told ttls start stand all.up;
           summary = subst (λ tally. Writes (summary_text tally)) (tally_is true all.items t) wrote;
         }

@@ -1,8 +1,9 @@
 -- What a run over a spool does to the history that the files stand for, as they are read, and to its streams.
-use Rattle.std.specs.Prelude.{◌≡◌, ◌⊎◌, ℕ, ◌+◌, ◌-◌, ◌^◌, ◌≤◌, min, ℤ, IsTrue, Bool, true, false, List, [], ◌∷◌, ◌++◌, Option, Some, IfSome, is_some, if◌then◌else◌}
+use Rattle.std.specs.Prelude.{◌≡◌, ◌⊎◌, ℕ, ◌+◌, ◌-◌, ◌^◌, ◌≤◌, min, ℤ, IsTrue, Bool, true, false, List, [], ◌∷◌, ◌++◌, Option, Some, Ok, IfSome, is_some, if◌then◌else◌}
 use Rattle.std.specs.Io.KnownBytes.{Appends, Keeps, IsAtEnd}
 use Rattle.spool_text.specs.fleet_ports.Counts.{Counts, Rose}
 use Rattle.spool_text.specs.fleet_ports.declared.disk.Disks.{Disks}
+use Rattle.fleet_hub.specs.fleet_rows.declared.change.Change.{Change}
 use Rattle.fleet_hub.specs.fleet_rows.declared.command.Command.{Command}
 use Rattle.fleet_hub.specs.fleet_rows.declared.row.Entity.{Entity}
 use Rattle.fleet_hub.specs.fleet_rows.declared.settings.Ttls.{Ttls}
@@ -13,11 +14,11 @@ use Rattle.program_words.specs.spool_spec.Spool.{End, whole, bad_at, SpoolOf}
 use Rattle.fleet_hub.specs.log_pair.Pair.{disk_a, disk_b, size_of_pair, is_down_of, IsGood}
 use Rattle.fleet_hub.specs.store_records.Reading.{store_at}
 use Rattle.fleet_hub.specs.core_spec.declared.event.Event.TheVariants.{Fail, Restart}
-use Rattle.fleet_hub.specs.core_spec.History.{History, command, trace_of}
+use Rattle.fleet_hub.specs.core_spec.History.{History, command, answer, trace_of}
 use Rattle.fleet_hub.specs.core_spec.Legal.{IsAfterFails, IsLegal}
 use Rattle.fleet_hub.specs.core_spec.Pending.{pending_of}
 use Rattle.fleet_hub.specs.core_spec.Thread.{one_thread}
-use Rattle.fleet_hub.specs.core_laws.Outcomes.{endings}
+use Rattle.fleet_hub.specs.core_laws.Outcomes.{endings, outcome, has_ended, applied, superseded_by}
 use Rattle.fleet_hub.specs.core_laws.Threads.{items_of, dropped}
 use Rattle.fleet_hub.specs.fleet_keeper.Keeper.{pair_of, faults_of, opened_of, IsWithin}
 use Rattle.fleet_hub.specs.fleet_keeper.declared.log_keeper.LogKeeper.{LogKeeper}
@@ -56,6 +57,12 @@ pub record TookAndEnded (ttls : Ttls) (items : List Item) (start more : History)
   pub nothing_waits : pending_of (more ++ Restart ∷ start) ≡ []
   pub ended_once : (r : ℕ) → endings r (more ++ Restart ∷ start) ≡ (if is_some (command r (more ++ Restart ∷ start)) then 1 else 0)
   pub rows_are : (entity : Entity) → rows entity ttls (trace_of (more ++ Restart ∷ start)) ≡ rows entity ttls (one_thread (Restart ∷ start) items (dropped more))
+
+-- Each command that hadn't ended at the start and that decodes to a change is applied, or superseded by an applied one.
+abbrev pub TakeEffect : History → History → Type 0
+TakeEffect start more =
+    (r : ℕ) (change : Change) → has_ended (outcome r start) ≡ false → answer r (more ++ Restart ∷ start) ≡ Some (Ok change)
+    → (outcome r (more ++ Restart ∷ start) ≡ Some applied) ⊎ ((p : ℕ) × (outcome r (more ++ Restart ∷ start) ≡ Some (superseded_by p)))
 
 -- ---- the disks
 
@@ -128,6 +135,8 @@ pub record RanThrough {D : Type 0} (w : DiskSight D) (now : ℤ) (end : End) (sp
   pub no_restart : HasNoRestart more
   pub ran : RanOn w now spool false disks after more
   pub took : ForEachHistory w disks (λ ttls start. TookAndEnded ttls items start more)
+  -- if no store disk counted a fault, what decodes takes effect
+  pub take_effect : ForEachHistory w disks (λ ttls start. (¬ StoreRose w disks after) → TakeEffect start more)
   pub leaves : ForEachHistory w disks (λ ttls start. DisksStand w.may_leave ttls after (more ++ Restart ∷ start))
   pub summary : Writes (summary_text (tally_of more))
 
