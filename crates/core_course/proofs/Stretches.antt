@@ -10,7 +10,7 @@ use Rattle.core_state.specs.declared.state.CoreState.{CoreState}
 use Rattle.core_state.specs.Moments.{StandsAmid}
 use Rattle.core_state.specs.StandsFor.{AreOfOneRecord, history_of}
 use Rattle.core_course.specs.Sight.{Sight, is_down}
-use Rattle.core_course.specs.Courses.{DisksGo, silent, writes, Link, AreLinked, Course, CountsRise, SameOpening, LogsGrow, Passed}
+use Rattle.core_course.specs.Courses.{DisksGo, silent, writes, Link, AreLinked, Course, CountsRise, SameOpening, LogsGrow, Passed, no_event}
 use Rattle.core_course.specs.Work.{IsWork, KeepsMoments, Worked}
 use Rattle.core_course.proofs.Traces.{queue_trace-append, store_trace-append, work_joined, moments_joined}
 
@@ -96,7 +96,7 @@ module _ {D K : Type 0} (w : Sight D K) where
 
     -- no call, as one that does nothing
     pub course_stays : (a : CoreState D K) → Course w May a a
-    course_stays a = course_of_one a a (record { goes = ([], refl); lifetimes = refl; stands = λ start stood. stood; disks = silent refl refl; stays_down = λ down. down })
+    course_stays a = course_of_one a a (record { goes = ([], refl); one_call = no_event refl; lifetimes = refl; stands = λ start stood. stood; disks = silent refl refl; stays_down = λ down. down })
 
   -- ---- what is written may be written where more may be
 
@@ -122,7 +122,7 @@ module _ {D K : Type 0} (w : Sight D K) where
     })
 
     pub link_also : (a b : CoreState D K) → Link w May a b → Link w Also a b
-    link_also a b link = record { goes = link.goes; lifetimes = link.lifetimes; stands = link.stands; disks = disks_also a b link.disks; stays_down = link.stays_down }
+    link_also a b link = record { goes = link.goes; one_call = link.one_call; lifetimes = link.lifetimes; stands = link.stands; disks = disks_also a b link.disks; stays_down = link.stays_down }
 
   module _ (May Also : CoreState D K → History → Type 0) (each : (core : CoreState D K) (begun : History) → May core begun → Also core begun) where
     links_also : (a b : CoreState D K) (stops : List (CoreState D K)) → AreLinked w May a stops b → AreLinked w Also a stops b

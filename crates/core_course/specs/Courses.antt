@@ -4,6 +4,9 @@ use Rattle.core_state.specs.fleet_rows.declared.command.Command.{Command}
 use Rattle.core_state.specs.log_pair.Pair.{disk_a, disk_b}
 use Rattle.core_state.specs.record_spec.declared.queue.QueueRecord.{QueueRecord}
 use Rattle.core_state.specs.record_spec.declared.store.StoreRecord.{StoreRecord}
+use Rattle.core_state.specs.fleet_rows.declared.refusal.Cause.TheVariants.{Failures}
+use Rattle.core_state.specs.core_spec.declared.event.Event.{Event}
+use Rattle.core_state.specs.core_spec.declared.event.Event.TheVariants.{Claim, Release, Supersede, Fail, Discard}
 use Rattle.core_state.specs.core_spec.History.{History}
 use Rattle.core_state.specs.core_spec.Stands.{queue_trace, store_trace}
 use Rattle.core_state.specs.queue_log.Queued.{queue_pair, queue_moment, queued}
@@ -23,10 +26,35 @@ pub data DisksGo {D K : Type 0} (w : Sight D K) (May : History → Type 0) (old 
       → Within w.may_leave w.moment w.left_since w.images w.store_moment w.images_since old new
       (StandsAmid old.tables.ttls (λ upto begun. AreOfOneRecord begun × May begun) (history_of old start) (history_of new start))) → DisksGo w May old new
 
+-- ---- the events of one call
+
+-- commands are superseded, one after the other
+abbrev pub OnlySupersedes : History → Type 0
+OnlySupersedes [] = Unit {0}
+OnlySupersedes (Supersede q p ∷ events) = OnlySupersedes events
+OnlySupersedes (_ ∷ events) = ⊥
+
+-- commands are queued again, one after the other
+abbrev pub OnlyReleases : History → Type 0
+OnlyReleases [] = Unit {0}
+OnlyReleases (Release r ∷ events) = OnlyReleases events
+OnlyReleases (_ ∷ events) = ⊥
+
+-- A call adds no event or one; or a sixteenth failure and what it discards. Or it supersedes commands, and may then claim one. Or
+-- it queues claimed commands again.
+pub data AreOfOneCall (events : History) : Type 0 where
+  no_event : events ≡ [] → AreOfOneCall events
+  one_event : (e : Event) → events ≡ e ∷ [] → AreOfOneCall events
+  gives_up : (r before after : ℕ) → events ≡ Discard r Failures ∷ Fail r before after ∷ [] → AreOfOneCall events
+  supersedes : OnlySupersedes events → AreOfOneCall events
+  claims : (r : ℕ) (earlier : History) → OnlySupersedes earlier → events ≡ Claim r ∷ earlier → AreOfOneCall events
+  releases : OnlyReleases events → AreOfOneCall events
+
 -- One call: the core stands for each history that it stood for, with further events. A core that is down stays down, and nothing
 -- is written.
 pub record Link {D K : Type 0} (w : Sight D K) (May : History → Type 0) (old new : CoreState D K) : Type 0 where
   pub goes : GoesOn old.events.list new.events.list
+  pub one_call : AreOfOneCall goes.0
   pub lifetimes : new.tables.ttls ≡ old.tables.ttls
   pub stands : (start : History) → Stood w old start → Stood w new start
   pub disks : DisksGo w May old new

@@ -21,6 +21,7 @@ use Rattle.core_course.specs.Sight.{Sight, Stood, is_down}
 use Rattle.core_course.specs.Courses.{DisksGo, Passed}
 use Rattle.core_course.specs.Work.{IsWork, Worked}
 use Rattle.core_drain.proofs.Links.{core_up, written, same_opening, queue_counts, same_faults, work_of}
+use Rattle.core_drain.proofs.OneCalls.{claimed_at_once}
 use Rattle.core_drain.proofs.Records.{none_more}
 
 -- ---- supersedings, and the claim behind them
@@ -145,5 +146,5 @@ module _ {D K : Type 0} (w : Sight D K) where
 
     pub claim_works : Worked w old new
     claim_works =
-        work_of w claim_events old new (claim_works_too came says.adds.more (supersedings_work says.adds.more says.adds.only)) claim_passes
+        work_of w claim_events old new (claim_works_too came says.adds.more (supersedings_work says.adds.more says.adds.only)) (claimed_at_once came says.adds.more says.adds.only) claim_passes
         (λ start. claim_moments came (history_of old start) says.adds.more (supersedings_moments (history_of old start) says.adds.more says.adds.only)) claim_disks

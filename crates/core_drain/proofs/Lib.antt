@@ -2,6 +2,7 @@ pub mod Links
 pub mod Records
 pub mod Fails
 pub mod Waits
+pub mod OneCalls
 pub mod Releases
 pub mod Submits
 pub mod Claims

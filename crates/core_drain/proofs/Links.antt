@@ -14,7 +14,7 @@ use Rattle.command_core.specs.core_state.Moments.{Within, StandsAmid}
 use Rattle.command_core.specs.core_state.Puts.{QueueCounts}
 use Rattle.command_core.specs.core_state.StandsFor.{AreOfOneRecord, history_of}
 use Rattle.core_course.specs.Sight.{Sight, Stood, is_down}
-use Rattle.core_course.specs.Courses.{DisksGo, silent, writes, Link, Course, CountsRise, SameOpening, Passed}
+use Rattle.core_course.specs.Courses.{DisksGo, silent, writes, AreOfOneCall, Link, Course, CountsRise, SameOpening, Passed}
 use Rattle.core_course.specs.Work.{IsWork, Worked}
 use Rattle.core_course.proofs.Stretches.{course_of_one}
 use Rattle.command_core.proofs.of_core_state.Standing.{IsUp, up_parts}
@@ -86,12 +86,12 @@ module _ {D K : Type 0} (w : Sight D K) where
 
   -- ---- as a stretch
 
-  pub link_of : (May : History → Type 0) (more : History) (old new : CoreState D K) → Passed w more old new → DisksGo w May old new → Link w May old new
-  link_of May more old new passed disks = record { goes = (more, passed.events); lifetimes = passed.opening.lifetimes; stands = passed.stands; disks = disks; stays_down = passed.stays_down }
+  pub link_of : (May : History → Type 0) (more : History) (old new : CoreState D K) → AreOfOneCall more → Passed w more old new → DisksGo w May old new → Link w May old new
+  link_of May more old new of_one passed disks = record { goes = (more, passed.events); one_call = of_one; lifetimes = passed.opening.lifetimes; stands = passed.stands; disks = disks; stays_down = passed.stays_down }
 
-  pub work_course : (more : History) (old new : CoreState D K) → Passed w more old new → DisksGo w IsWork old new → Course w (λ core begun. IsWork begun) old new
-  work_course more old new passed disks = course_of_one w (λ core begun. IsWork begun) old new (link_of IsWork more old new passed disks)
+  pub work_course : (more : History) (old new : CoreState D K) → AreOfOneCall more → Passed w more old new → DisksGo w IsWork old new → Course w (λ core begun. IsWork begun) old new
+  work_course more old new of_one passed disks = course_of_one w (λ core begun. IsWork begun) old new (link_of IsWork more old new of_one passed disks)
 
-  pub work_of : (more : History) (old new : CoreState D K) → IsWork more → Passed w more old new → ((start : History) → MomentsAreKept (history_of old start) more) → DisksGo w IsWork old new → Worked w old new
-  work_of more old new only passed moments disks =
-      record { more = more; only = only; passed = passed; moments = λ start stood. moments start; course = work_course more old new passed disks }
+  pub work_of : (more : History) (old new : CoreState D K) → IsWork more → AreOfOneCall more → Passed w more old new → ((start : History) → MomentsAreKept (history_of old start) more) → DisksGo w IsWork old new → Worked w old new
+  work_of more old new only of_one passed moments disks =
+      record { more = more; only = only; passed = passed; moments = λ start stood. moments start; course = work_course more old new of_one passed disks }

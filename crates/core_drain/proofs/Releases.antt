@@ -19,6 +19,7 @@ use Rattle.core_course.specs.Sight.{Sight, Stood, is_down}
 use Rattle.core_course.specs.Courses.{silent, Passed}
 use Rattle.core_course.specs.Work.{IsWork, Worked}
 use Rattle.core_drain.proofs.Links.{same_down, same_opening, same_counts, work_of}
+use Rattle.core_drain.proofs.OneCalls.{released_at_once}
 use Rattle.core_drain.proofs.Records.{none_more}
 
 -- ---- releases leave nothing in the logs
@@ -106,7 +107,7 @@ module _ {D K : Type 0} (w : Sight D K) where
 
     pub quiet_works : Worked w old new
     quiet_works =
-        work_of w more old new (releases_work more quiet.only) quiet_passes (λ start. releases_moments (history_of old start) more quiet.only)
+        work_of w more old new (releases_work more quiet.only) (released_at_once more quiet.only) quiet_passes (λ start. releases_moments (history_of old start) more quiet.only)
         (silent quiet.queue quiet.store)
 
   same_quiet : (core : CoreState D K) → Quiet w [] core core

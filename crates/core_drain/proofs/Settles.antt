@@ -33,6 +33,7 @@ use Rattle.core_course.specs.Sight.{Sight, Stood, is_down}
 use Rattle.core_course.specs.Courses.{DisksGo, SameOpening, LogsGrow, Passed}
 use Rattle.core_course.specs.Work.{IsWork, KeepsMoments, Worked}
 use Rattle.core_drain.proofs.Links.{core_up, written, queue_counts, work_course}
+use Rattle.core_drain.proofs.OneCalls.{settled_at_once}
 use Rattle.core_drain.proofs.Records.{none_more, one_more}
 
 -- ---- its events
@@ -218,5 +219,5 @@ module _ {D K : Type 0} (w : Sight D K) where
       only = settled_work came job v before now new.undone (is_down w new);
       passed = settle_passes;
       moments = settle_moments;
-      course = work_course w settle_events old new settle_passes settle_disks;
+      course = work_course w settle_events old new (settled_at_once came job v before now new.undone (is_down w new)) settle_passes settle_disks;
     }

@@ -18,7 +18,7 @@ use Rattle.fleet_rows.specs.declared.submitted.Submitted.{Submitted}
 use Rattle.fleet_rows.specs.declared.submitted.Submitted.TheVariants as answer
 use Rattle.command_core.specs.core_submits.Submits.{IsSubmitOf, SubmitAdds, SubmitWrites}
 use Rattle.core_course.specs.Sight.{Sight, Stood, is_down}
-use Rattle.core_course.specs.Courses.{DisksGo, Link, Passed}
+use Rattle.core_course.specs.Courses.{DisksGo, Link, Passed, AreOfOneCall, no_event, one_event}
 use Rattle.core_drain.proofs.Links.{core_up, written, same_opening, queue_counts, same_faults, link_of}
 use Rattle.core_drain.proofs.Records.{none_more, one_more}
 
@@ -38,6 +38,14 @@ added answer.QueueFault c last old new h = h
 added answer.Spent c last old new h = h
 added answer.Down c last old new h = h
 added answer.Memory c last old new h = h
+
+submitted_at_once : (came : Submitted) (c : Command) → AreOfOneCall (submit_events came c)
+submitted_at_once (answer.Receipt r) c = one_event (Submit r c) refl
+submitted_at_once answer.Full c = no_event refl
+submitted_at_once answer.QueueFault c = no_event refl
+submitted_at_once answer.Spent c = no_event refl
+submitted_at_once answer.Down c = no_event refl
+submitted_at_once answer.Memory c = no_event refl
 
 stores_none : (came : Submitted) (c : Command) (upto : History) → store_trace upto (submit_events came c) ≡ []
 stores_none (answer.Receipt r) c upto = refl
@@ -99,4 +107,4 @@ module _ {D K : Type 0} (w : Sight D K) where
 
     -- the record that it writes is that of the command, under the next receipt
     pub submit_link : Link w (λ begun. begun ≡ Submit (old.last + 1) c ∷ []) old new
-    submit_link = link_of w (λ begun. begun ≡ Submit (old.last + 1) c ∷ []) (submit_events came c) old new submit_passes submit_disks
+    submit_link = link_of w (λ begun. begun ≡ Submit (old.last + 1) c ∷ []) (submit_events came c) old new (submitted_at_once came c) submit_passes submit_disks

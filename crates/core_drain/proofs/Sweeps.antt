@@ -21,7 +21,7 @@ use Rattle.command_core.specs.core_sweeps.declared.answers.Swept.{Swept}
 use Rattle.command_core.specs.core_sweeps.declared.answers.Swept.TheVariants as came_as
 use Rattle.command_core.specs.core_sweeps.Sweeps.{SweepAdds, IsSweep, IsStoreFault, SweepWrites}
 use Rattle.core_course.specs.Sight.{Sight, Stood, is_down}
-use Rattle.core_course.specs.Courses.{DisksGo, Link, Passed}
+use Rattle.core_course.specs.Courses.{DisksGo, Link, Passed, AreOfOneCall, no_event, one_event}
 use Rattle.core_drain.proofs.Links.{core_up, written, link_of}
 use Rattle.core_drain.proofs.Records.{none_more, one_more}
 
@@ -41,6 +41,14 @@ added came_as.StoreDown kinds m old new h = h
 added came_as.Spent kinds m old new h = h
 added came_as.Down kinds m old new h = h
 added came_as.Memory kinds m old new h = h
+
+swept_at_once : (came : Swept) (kinds : Kinds) (m : ℤ) → AreOfOneCall (sweep_events came kinds m)
+swept_at_once came_as.Ok kinds m = one_event (Sweep kinds m) refl
+swept_at_once came_as.StoreFault kinds m = no_event refl
+swept_at_once came_as.StoreDown kinds m = no_event refl
+swept_at_once came_as.Spent kinds m = no_event refl
+swept_at_once came_as.Down kinds m = no_event refl
+swept_at_once came_as.Memory kinds m = no_event refl
 
 queues_none : (came : Swept) (kinds : Kinds) (m : ℤ) → queue_trace (sweep_events came kinds m) ≡ []
 queues_none came_as.Ok kinds m = refl
@@ -114,4 +122,4 @@ module _ {D K : Type 0} (w : Sight D K) where
 
     -- the record that it writes is that of the sweep
     pub sweep_link : Link w (λ begun. begun ≡ Sweep kinds m ∷ []) old new
-    sweep_link = link_of w (λ begun. begun ≡ Sweep kinds m ∷ []) (sweep_events came kinds m) old new sweep_passes sweep_disks
+    sweep_link = link_of w (λ begun. begun ≡ Sweep kinds m ∷ []) (sweep_events came kinds m) old new (swept_at_once came kinds m) sweep_passes sweep_disks

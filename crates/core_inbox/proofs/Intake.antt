@@ -63,7 +63,7 @@ module _ {D K : Type 0} (w : Sight D K) where
   -- a call that left both logs as they were wrote nothing
   link_silent : (Wrote Also : History → Type 0) (a b : CoreState D K) → Link w Wrote a b → b.queue ≡ a.queue → b.store ≡ a.store → Link w Also a b
   link_silent Wrote Also a b link queue store =
-      record { goes = link.goes; lifetimes = link.lifetimes; stands = link.stands; disks = silent queue store; stays_down = link.stays_down }
+      record { goes = link.goes; one_call = link.one_call; lifetimes = link.lifetimes; stands = link.stands; disks = silent queue store; stays_down = link.stays_down }
 
   -- ---- the counts of the queue's disks
 

@@ -25,6 +25,7 @@ use Rattle.fleet_hub.specs.core_state.Tallies.{tally_of}
 use Rattle.fleet_hub.specs.core_opening.Opened.{LogCore, FilesStand, DisksStand, disks_in}
 use Rattle.fleet_hub.specs.core_course.Sight.{Stood, is_down}
 use Rattle.fleet_hub.proofs.of_core_course.Stretches.{history_joined}
+use Rattle.fleet_hub.proofs.of_core_course.Uses.{all_are_within}
 use Rattle.spool_run.specs.Rules.{KeepsRules}
 use Rattle.spool_run.specs.Fronts.{AreInFront}
 use Rattle.spool_run.specs.Intake.{TookIn, TookAll}
@@ -184,6 +185,7 @@ module _ {D : Type 0} (w : DiskSight D) (disks : Disks D) (opened : LogCore D) (
         ended = ended;
         passed = t.passed;
         course = t.course;
+        whole = all_are_within (log_sight w) opened ended t.course.stops;
         sound = sound;
         fails = fails_now;
         no_fails = λ told ttls start files none.

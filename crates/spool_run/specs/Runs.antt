@@ -28,7 +28,7 @@ use Rattle.fleet_hub.specs.core_state.StandsFor.{AreOfOneRecord}
 use Rattle.fleet_hub.specs.core_state.Tallies.{tally_of}
 use Rattle.fleet_hub.specs.core_opening.Opened.{LogCore, FilesStand, DisksStand, disks_in}
 use Rattle.fleet_hub.specs.core_course.Sight.{Sight, sight, is_down}
-use Rattle.fleet_hub.specs.core_course.Courses.{Course, Passed}
+use Rattle.fleet_hub.specs.core_course.Courses.{Course, NoMomentIsLeftOut, Passed}
 use Rattle.fleet_hub.specs.core_drain.Ends.{LacksDone, SomethingWaits}
 use Rattle.spool_run.specs.Rules.{NothingIsDue, HasNoRestart, KeepsRules}
 use Rattle.spool_run.specs.Fronts.{AreInFront, ComesNext, WereRead}
@@ -117,6 +117,8 @@ pub record RanOn {D : Type 0} (w : DiskSight D) (now : ℤ) (spool : Option (Lis
   pub ended : LogCore D
   pub passed : Passed (log_sight w) more opened ended
   pub course : Course (log_sight w) (MayTake now spool opened) opened ended
+  -- each moment of a file, from the opened core's to the last one's, lies within one of these calls
+  pub whole : NoMomentIsLeftOut (log_sight w) opened course.stops ended
   pub sound : IsSoundCore w ended
   pub fails : ForEachHistory w disks (λ ttls start. StoreRoseBy (fail_count more) w disks after)
   pub no_fails : ForEachHistory w disks (λ ttls start. (¬ StoreRose w disks after) → fail_count more ≡ 0)
