@@ -2,8 +2,8 @@
 use Rattle.std.specs.Prelude.{◌≡◌, ℕ, ◌≤◌, ◌-◌, ◌^◌, min, List, [], ◌∷◌, ◌++◌, length}
 use Rattle.entry_tree.specs.declared.waiting.Waiting.{Waiting}
 use Rattle.entry_tree.specs.declared.tree.Fork.{Fork}
-use Rattle.entry_tree.specs.declared.tree.Link.{Link}
-use Rattle.entry_tree.specs.declared.tree.Link.TheVariants.{End, Top}
+use Rattle.entry_tree.specs.declared.tree.Branch.{Branch}
+use Rattle.entry_tree.specs.declared.tree.Branch.TheVariants.{End, Top}
 use Rattle.entry_tree.specs.declared.tree.Sums.{Sums}
 use Rattle.entry_tree.specs.Waits.{Rises, candidate_number, unclaimed_number, bytes_in}
 use Rattle.core_machine.specs.fleet_rows.Limits.{most_pending}
@@ -11,7 +11,7 @@ use Rattle.core_machine.specs.fleet_rows.Limits.{most_pending}
 abbrev pub of_fork : Fork → List Waiting
 of_fork f = f.left ++ f.waiting ∷ f.right
 
-abbrev pub all : Link → List Waiting
+abbrev pub all : Branch → List Waiting
 all End = []
 all (Top f) = of_fork f.value
 
@@ -23,6 +23,6 @@ pub record IsFork (f : Fork) : Type 0 where
   pub few : length (of_fork f) ≤ most_pending
   pub sums : f.sums ≡ sums_of (of_fork f)
 
-abbrev pub IsTree : Link → Type 0
+abbrev pub IsTree : Branch → Type 0
 IsTree End = Unit {0}
 IsTree (Top f) = IsFork f.value

@@ -12,12 +12,12 @@ use std::marker::Model;
 #[cycle(tree)]
 #[derive(Drop)]
 pub struct EntryTree {
-    root: Link,
+    root: Branch,
 }
 
 #[cycle(tree)]
 #[derive(Drop)]
-enum Link {
+enum Branch {
     End,
     Top(Box<Fork>),
 }
@@ -66,7 +66,7 @@ impl EntryTree {
     pub fn new() -> EntryTree
         ensures { result ≡ [] }
     {
-        EntryTree { root: Link::End }
+        EntryTree { root: Branch::End }
     }
 
     pub(crate) fn sums(&self) -> Sums
@@ -125,8 +125,8 @@ impl EntryTree {
         ensures shorter { MatchOption result ⊤ (λ f. (length f.now.left < length self.now) × (length f.now.right < length self.now)) }
     {
         match &self.root {
-            Link::End => None,
-            Link::Top(fork) => Some(&**fork),
+            Branch::End => None,
+            Branch::Top(fork) => Some(&**fork),
         }
     }
 
@@ -136,8 +136,8 @@ impl EntryTree {
         ensures shorter { MatchOption result ⊤ (λ f. (length f.value.left < length self) × (length f.value.right < length self)) }
     {
         match self.root {
-            Link::End => None,
-            Link::Top(fork) => Some(fork),
+            Branch::End => None,
+            Branch::Top(fork) => Some(fork),
         }
     }
 }
@@ -148,7 +148,7 @@ pub(crate) fn kept(fork: Box<Fork>) -> EntryTree
     ensures { result ≡ of_fork fork.value }
 {
     EntryTree {
-        root: Link::Top(fork),
+        root: Branch::Top(fork),
     }
 }
 

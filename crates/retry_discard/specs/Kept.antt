@@ -3,8 +3,8 @@ use Rattle.std.specs.Prelude.{◌≡◌, ℕ, zero, suc, ◌==◌, ◌<◌, ◌�
 use Rattle.std.specs.List.{AllByRecursion}
 use Rattle.core_spec.specs.declared.dead.Dead.{Dead}
 
--- the commands by receipt, and the room for more
-pub record Kept : Type 0 where
+-- what contracts see of `Discards`: the commands by receipt, and the room for more
+pub record DiscardsView : Type 0 where
   pub list : List Dead
   pub room : ℕ
 

@@ -24,9 +24,9 @@ pub struct Discards {
 impl Model for Discards {
     ghost use Rattle.std.specs.Prelude.{◌-◌};
     ghost use Rattle.std.specs.Vec.{vec_len, vec_capacity};
-    ghost use Rattle.retry_discard.specs.Kept.{Kept, AreInOrder};
+    ghost use Rattle.retry_discard.specs.Kept.{DiscardsView, AreInOrder};
 
-    ghost Value = { Kept };
+    ghost Value = { DiscardsView };
 
     ghost view = { λ a. record { list = a.commands.items; room = vec_capacity a.commands - vec_len a.commands } };
 

@@ -2,7 +2,7 @@ use Rattle.std.proofs.Common.{sym, subst}
 use Rattle.query_answer.specs.fleet_ports.declared.disk.Disks.{Disks}
 use Rattle.calm_commands.specs.Told.{stream}
 use Rattle.calm_commands.specs.Openings.{disk_sight}
-use Rattle.command_core.specs.retry_discard.Kept.{Kept, dead_at}
+use Rattle.command_core.specs.retry_discard.Kept.{DiscardsView, dead_at}
 use Rattle.calm_commands.specs.Calm.{PrintsPayload, IsPayloadRun}
 use Rattle.calm_commands.proofs.Opened.{payload_run, unopened_payload}
 use Rattle.calm_commands.proofs.payload.print_payload.Goals as goal
@@ -15,7 +15,7 @@ returns-in-Ok g c =
     let out = stream (o.held c.args.out.now) (o.fault_count c.args.out.now) in
     let after = stream (o.held c.print_bytes-status.new.out) (o.fault_count c.print_bytes-status.new.out) in
     let e = c.print_bytes-status.ensures in
-    let run = payload_run w c.args.disks out after c.print_bytes-status.result c.in-Ok.core c.in-Ok.ensures.opened e.silent e.cause c.args.receipt e.ends (subst (λ (x : Kept). PrintsPayload c.print_bytes-status.result c.args.receipt (dead_at c.args.receipt x.list) (o.held c.args.out.now) (o.held c.print_bytes-status.new.out)) c.discards.ensures e.which) in
+    let run = payload_run w c.args.disks out after c.print_bytes-status.result c.in-Ok.core c.in-Ok.ensures.opened e.silent e.cause c.args.receipt e.ends (subst (λ (x : DiscardsView). PrintsPayload c.print_bytes-status.result c.args.receipt (dead_at c.args.receipt x.list) (o.held c.args.out.now) (o.held c.print_bytes-status.new.out)) c.discards.ensures e.which) in
     subst (λ (x : Disks g.row.D.Denot). IsPayloadRun w c.args.receipt out after c.args.disks x c.print_bytes-status.result) (sym c.into_disks.ensures) run
 
 pub returns-in-Err : goal.returns-in-Err
