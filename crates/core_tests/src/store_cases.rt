@@ -11,6 +11,8 @@ b2c3c4 L7E0/(2, 0, 4, 0)
 b2c3c4s3 L7E0/(1, 0, 4, 0)
 b2c3c4f3 L7E0/(2, 0, 4, 0)
 b2c3c4r3 L7E0/(1, 1, 4, 0)
+# of commands that ended none is pending
+b2c3d3c4d4c5d5c6d6c7d7c8d8c9 L7E0/(1, 0, 9, 0)
 # the sixteenth failure discards a command
 b2c3c4f3f3f3f3f3f3f3f3f3f3f3f3f3f3f3f3 L7E0/(1, 1, 4, 0)
 b2h1c3 L7E0/(2, 0, 3, 0)

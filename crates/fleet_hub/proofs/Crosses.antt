@@ -22,15 +22,17 @@ use Rattle.core_drain.proofs.of_fleet_tables.kept.Deactivation.TheSendSync as de
 use Rattle.core_drain.proofs.of_fleet_tables.kept.Expiration.TheSendSync as expiration
 use Rattle.core_drain.proofs.of_fleet_tables.shown.FactsShown.TheSendSync as facts_shown
 use Rattle.core_drain.proofs.of_fleet_tables.shown.CatalogShown.TheSendSync as catalog_shown
+use Rattle.core_drain.proofs.of_fleet_tables.of_packed_values.PackedItems.TheSendSync as packed_items
 use Rattle.core_drain.specs.json_tree.contracts.tree.Items as Items
 use Rattle.core_drain.specs.json_tree.contracts.tree.Members as Members
 use Rattle.core_drain.specs.fleet_rows.contracts.list.Resources as Resources
 use Rattle.core_drain.specs.fleet_rows.contracts.catalog.Resource as Resource
 use Rattle.core_drain.specs.fleet_rows.contracts.catalog.CatalogChange as CatalogChange
 use Rattle.core_drain.specs.fleet_rows.contracts.change.FactsChange as FactsChange
-use Rattle.core_drain.specs.fleet_rows.contracts.change.ReportChange as ReportChange
 use Rattle.core_drain.specs.fleet_tables.contracts.kept.Factset as Factset
 use Rattle.core_drain.specs.fleet_tables.contracts.kept.NodeCatalog as NodeCatalog
+use Rattle.core_drain.specs.fleet_tables.contracts.packed.PackedLists as PackedLists
+use Rattle.core_drain.specs.fleet_tables.contracts.packed.PackedReport as PackedReport
 use Rattle.core_drain.specs.fleet_tables.contracts.kept.Report as Report
 use Rattle.core_drain.specs.fleet_tables.contracts.kept.HeldReport as HeldReport
 use Rattle.core_drain.specs.fleet_tables.contracts.node.Node as Node
@@ -61,8 +63,11 @@ module _ (items : IsSend (Items.the_field).row) (members : IsSend (Members.the_f
   catalog : IsSend (CatalogChange.the_field).row
   catalog = search (parts, resources) depth 20
 
-  report : IsSend (ReportChange.the_field).row
-  report = search (parts, items) depth 20
+  packed_lists : IsSend (PackedLists.the_field).row
+  packed_lists = search (parts, packed_items.the_send) depth 20
+
+  packed_report : IsSend (PackedReport.the_field).row
+  packed_report = search (parts, packed_lists) depth 20
 
   factset : IsSend (Factset.the_field).row
   factset = search (parts, facts, facts_shown.the_field_send) depth 20
@@ -71,7 +76,7 @@ module _ (items : IsSend (Items.the_field).row) (members : IsSend (Members.the_f
   node_catalog = search (parts, catalog, catalog_shown.the_field_send) depth 20
 
   node_report : IsSend (Report.the_field).row
-  node_report = search (parts, report) depth 20
+  node_report = search (parts, packed_report) depth 20
 
   held_report : IsSend (HeldReport.the_field).row
   held_report = search (parts, node_report) depth 20

@@ -1,4 +1,5 @@
 mod Printable
+mod PackedLaws
 pub mod RowLaws
 pub mod NodePlaces
 pub mod Counting
@@ -32,3 +33,4 @@ pub use Rattle.checkpoint_spec.proofs.of_history_laws as of_history_laws
 pub use Rattle.checkpoint_spec.proofs.of_table_machine as of_table_machine
 pub use Rattle.checkpoint_spec.proofs as of_checkpoint_spec
 pub use Rattle.row_cells.proofs as of_row_cells
+pub use Rattle.packed_values.proofs as of_packed_values

@@ -71,7 +71,7 @@ pub node_there : (certname : List ℕ) (nodes : List Node) (k : ℕ) → InOrder
 node_there certname nodes k s place = λ seen e.
     let node = image_at node_seen nodes k seen e in
     let named = place.1 node.0 node.1 in (
-      ap (λ (n : machine.Node). length n.reports) (sym node.2) ∙ ap reports_of (sym (found certname nodes k node.0 s node.1 named)),
+      ap (λ (n : machine.Node). n.reports) (sym node.2) ∙ ap reports_of (sym (found certname nodes k node.0 s node.1 named)),
       λ change. put_found certname change nodes k node.0 s node.1 named ∙ ap (λ (n : machine.Node). set (map node_seen nodes) k (change n)) node.2,
     )
 
@@ -82,7 +82,7 @@ node_put certname nodes k new place empty = λ seen e.
     let list : map node_seen (insert nodes k new) ≡ insert (map node_seen nodes) k (empty_node certname) = map-insert node_seen nodes k new ∙ ap (insert (map node_seen nodes) k) empty in
     let there : Some (empty_node certname) ≡ Some seen = sym (get-insert (map node_seen nodes) k (empty_node certname) within) ∙ ap (λ ns. slice_get ns k) (sym list) ∙ e in
     let same : empty_node certname ≡ seen = cc in (
-      ap (λ (n : machine.Node). length n.reports) (sym same) ∙ ap reports_of (sym (absent certname nodes k place.1 place.2)),
+      ap (λ (n : machine.Node). n.reports) (sym same) ∙ ap reports_of (sym (absent certname nodes k place.1 place.2)),
       λ change.
           put_absent certname change nodes k place.1 place.2
           ∙ sym (set-insert (map node_seen nodes) k (empty_node certname) (change (empty_node certname)) within)

@@ -1,19 +1,21 @@
 -- The reports of a node: their order, their places and the latest.
-use Rattle.std.proofs.Common.{◌≡◌, ◌∙◌, ℕ, zero, suc, ◌<◌, ◌+◌, List, [], ◌∷◌, length, get_or, set, drop, map, refl, sym, ap, subst, arith, Bool, true, false, cond, Option, Some, None, Result, Ok, Err, if◌then◌else◌, ℤ}
+use Rattle.std.proofs.Common.{◌≡◌, ◌∙◌, ℕ, zero, suc, ◌<◌, ◌≤◌, ◌+◌, List, [], ◌∷◌, length, get_or, set, drop, map, refl, sym, ap, subst, arith, Bool, true, false, cond, Option, Some, None, Result, Ok, Err, if◌then◌else◌, ℤ, lit≤}
 use Rattle.std.specs.List.{insert, filter, AllByRecursion, Contains}
-use Rattle.std.specs.List.Sorted.{IsStrictlySortedBy, IsPartitionPoint, IsNonDecreasingBy, IsSearchInRange, IsBinarySearchResult}
-use Rattle.std.specs.Ordering.{ordering_index, int_cmp, ordering_then}
+use Rattle.std.specs.List.Sorted.{IsStrictlySortedBy}
+use Rattle.std.specs.Ordering.{ordering_index}
 use Rattle.std.specs.declared.cmp.Ordering.{Ordering}
 use Rattle.std.specs.declared.cmp.Ordering.TheVariants.{Less, Equal, Greater}
 use Rattle.std.proofs.lemmas.Cmp.{tied_itself, tied_back}
 use Rattle.std.proofs.lemmas.List.{map-set, get_or-map, set-get_or, at_drop_more}
+use Rattle.std.proofs.lemmas.Option.{get_or_from_slice_get, slice_get_read}
 use Rattle.std.proofs.lemmas.List.Elements.{filter_agree}
 use Rattle.std.proofs.lemmas.List.Kept.{IsStrictlySortedBy-filter}
-use Rattle.checkpoint_spec.specs.text_spec.Compact.{text_cmp}
 use Rattle.checkpoint_spec.specs.fleet_rows.declared.settings.Ttls.{Ttls}
 use Rattle.checkpoint_spec.specs.fleet_rows.declared.command.Kind.TheVariants as kind
 use Rattle.checkpoint_spec.specs.fleet_rows.declared.applied.Applied.{Applied}
-use Rattle.checkpoint_spec.specs.history_spec.Trace.{rank_of}
+use Rattle.checkpoint_spec.specs.fleet_rows.declared.change.Change.TheVariants as changes
+use Rattle.checkpoint_spec.specs.fleet_rows.declared.change.ReportChange.{ReportChange}
+use Rattle.checkpoint_spec.specs.history_spec.Trace.{applied_as, rank_of}
 use Rattle.checkpoint_spec.specs.history_spec.Node.{greater, newest}
 use Rattle.checkpoint_spec.specs.history_spec.Report.{is_retained, is_below}
 use Rattle.checkpoint_spec.proofs.of_history_laws.Limits.{below_on}
@@ -25,7 +27,7 @@ use Rattle.checkpoint_spec.proofs.of_table_machine.ReportOrder.{report_cmp_total
 use Rattle.fleet_tables.specs.declared.kept.Report.{Report}
 use Rattle.fleet_tables.specs.Seen.{report_seen, is_retained_at}
 use Rattle.fleet_tables.specs.Kept.{IsReport}
-use Rattle.fleet_tables.specs.ReportPlaces.{kept_cmp, IsReportPlace}
+use Rattle.fleet_tables.specs.ReportPlaces.{change_cmp, IsReportPlace, IsPlaceAmong}
 use Rattle.fleet_tables.proofs.NodeLaws.{retained_is}
 use Rattle.fleet_tables.proofs.Placed.{put-found, put-gap, searchable}
 
@@ -68,35 +70,73 @@ pub map-filter : {X Y : Type 0} (f : X → Y) (test : Y → Bool) (xs : List X) 
 map-filter f test [] = refl
 map-filter f test (x ∷ xs) = map_if f (test (f x)) x (filter (λ x. test (f x)) xs) (filter test (map f xs)) (map-filter f test xs)
 
--- ---- the order
+-- ---- the place of a report
 
-pub kept_cmp_is : (a b : Report) → IsReport a → IsReport b → kept_cmp a b ≡ report_cmp (report_seen a) (report_seen b)
-kept_cmp_is a b p q =
-    let first = p.0 in
-    let second = q.0 in
-    λ i. ordering_then (int_cmp a.change.stamp b.change.stamp) (text_cmp (first i) (second i))
+-- what holds of each report's command holds of the list of commands
+each_seen : (P : Applied → Type 0) (xs : List Report) (k : ℕ) (e : Applied) → k < length xs → ((d : Report) → P (report_seen (get_or xs k d))) → P (get_or (map report_seen xs) k e)
+each_seen P [] k e lt h = absurd (omega (arith, lt))
+each_seen P (y ∷ ys) zero e lt h = h y
+each_seen P (y ∷ ys) (suc k) e lt h = each_seen P ys k e (omega (arith, lt)) (λ d. h d)
 
-module _ (report : Report) (reports : List Report) (is : IsReport report) (each : AllByRecursion IsReport reports) where
-  cmp_at : (k : ℕ) (d : Report) → k < length reports → kept_cmp (get_or reports k d) report ≡ report_cmp (report_seen (get_or reports k d)) (report_seen report)
-  cmp_at k d h = kept_cmp_is (get_or reports k d) report (each-at IsReport reports k d h each) is
+pub length_seen : (xs : List Report) → length (map report_seen xs) ≡ length xs
+length_seen [] = refl
+length_seen (x ∷ xs) = ap suc (length_seen xs)
 
-  kept_rises : IsStrictlySortedBy report_cmp (map report_seen reports) → IsNonDecreasingBy (λ r. ordering_index (kept_cmp r report)) reports
-  kept_rises s i j d le lt =
-      let below : i < length reports = omega arith in
-      let up = searchable report_cmp report_cmp_total report_seen reports (report_seen report) s i j d le lt in
-      rw (cmp_at i d below, cmp_at j d lt) up
+least : (o : Ordering) → ordering_index o ≤ 0 → o ≡ Less
+least Less h = refl
+least Equal h = absurd (omega (arith, h))
+least Greater h = absurd (omega (arith, h))
 
-  -- what a search by what is kept finds is the report's place
-  pub place_is_found : IsStrictlySortedBy report_cmp (map report_seen reports) → (r : Result ℕ ℕ) → IsSearchInRange r (length reports) → IsBinarySearchResult (λ other. kept_cmp other report) reports r → IsReportPlace report reports r
-  place_is_found s (Ok at) within found = (within, λ d. sym (cmp_at at d within) ∙ found d)
-  place_is_found s (Err at) within found =
-      let parted = found (kept_rises s) in (
-        within,
-        (
-          λ k d low high. let h : k < length reports = omega (arith, within, high) in sym (cmp_at k d h) ∙ parted.0 k d low high,
-          λ k d low high. sym (cmp_at k d high) ∙ parted.1 k d low high,
-        ),
-      )
+most : (o : Ordering) → 2 ≤ ordering_index o → o ≡ Greater
+most Less h = absurd (omega (arith, h))
+most Equal h = absurd (omega (arith, h))
+most Greater h = refl
+
+module _ (reports : List Report) (change : ReportChange) (s : IsStrictlySortedBy report_cmp (map report_seen reports)) where
+  -- the order does not depend on the receipt
+  abbrev any : Applied
+  any = applied_as 0 None (changes.Report change)
+
+  rises_to : (i j : ℕ) (d : Report) → i ≤ j → j < length reports → ordering_index (change_cmp (get_or reports i d).change change) ≤ ordering_index (change_cmp (get_or reports j d).change change)
+  rises_to i j d le lt = searchable report_cmp report_cmp_total report_seen reports any s i j d le lt
+
+  module _ (middle : ℕ) (r : Report) (within : middle < length reports) (read : r ≡ get_or reports middle r) where
+    at_middle : (d : Report) → get_or reports middle d ≡ r
+    at_middle d = get_or_from_slice_get reports middle r d (slice_get_read reports (length reports) middle r refl within read)
+
+    pub all_below : change_cmp r.change change ≡ Less → (k : ℕ) (d : Report) → k < middle + 1 → change_cmp (get_or reports k d).change change ≡ Less
+    all_below less k d lt =
+        let here : ordering_index (change_cmp (get_or reports middle d).change change) ≡ 0 = ap (λ (q : Report). ordering_index (change_cmp q.change change)) (at_middle d) ∙ ap ordering_index less in
+        let up = rises_to k middle d (omega (arith, lt)) within in
+        least (change_cmp (get_or reports k d).change change) (omega (arith, here, up))
+
+    pub all_above : change_cmp r.change change ≡ Greater → (k : ℕ) (d : Report) → middle ≤ k → k < length reports → change_cmp (get_or reports k d).change change ≡ Greater
+    all_above greater k d low high =
+        let here : ordering_index (change_cmp (get_or reports middle d).change change) ≡ 2 = ap (λ (q : Report). ordering_index (change_cmp q.change change)) (at_middle d) ∙ ap ordering_index greater in
+        let up = rises_to middle k d low high in
+        most (change_cmp (get_or reports k d).change change) (omega (arith, here, up))
+
+    pub place_there : change_cmp r.change change ≡ Equal → IsPlaceAmong change (map report_seen reports) (Ok middle)
+    place_there equal = λ receipt received. (
+      omega (arith, length_seen reports, within),
+      λ e. each_seen (λ y. report_cmp y (applied_as receipt received (changes.Report change)) ≡ Equal) reports middle e within (λ d. ap (λ (q : Report). change_cmp q.change change) (at_middle d) ∙ equal),
+    )
+
+  pub place_between : (at : ℕ) → at ≤ length reports → ((k : ℕ) (d : Report) → k < at → change_cmp (get_or reports k d).change change ≡ Less)
+      → ((k : ℕ) (d : Report) → at ≤ k → k < length reports → change_cmp (get_or reports k d).change change ≡ Greater) → IsPlaceAmong change (map report_seen reports) (Err at)
+  place_between at within below above = λ receipt received. (
+    omega (arith, length_seen reports, within),
+    (
+      λ k e low high. each_seen (λ y. report_cmp y (applied_as receipt received (changes.Report change)) ≡ Less) reports k e (omega (arith, within, high)) (λ d. below k d high),
+      λ k e low high. let inside : k < length reports = omega (arith, length_seen reports, high) in each_seen (λ y. report_cmp y (applied_as receipt received (changes.Report change)) ≡ Greater) reports k e inside (λ d. above k d low inside),
+    ),
+  )
+
+-- a node without reports has the first place for any
+pub none_there : (change : ReportChange) (reports : List Applied) → reports ≡ [] → IsPlaceAmong change reports (Err 0)
+none_there change reports none =
+    subst (λ (xs : List Applied). IsPlaceAmong change xs (Err 0)) (sym none)
+    (λ receipt received. (lit≤ tt, (λ k d low high. absurd (omega (arith, high)), λ k d low high. absurd (omega (arith, high)))))
 
 -- ---- a report comes to its place
 
@@ -108,40 +148,27 @@ pub put_report-sorted : (x : Applied) (xs : List Applied) → IsStrictlySortedBy
 put_report-sorted x xs s = sorted-put report_cmp report_cmp_total x (of_greater_rank x) (λ y h. keeps_key (is_below x y) x y h) xs s
 
 module _ (report : Report) (reports : List Report) (in_order : IsStrictlySortedBy report_cmp (map report_seen reports)) where
-  length_seen : (xs : List Report) → length (map report_seen xs) ≡ length xs
-  length_seen [] = refl
-  length_seen (x ∷ xs) = ap suc (length_seen xs)
-
   -- at the place of a report that is one with it the one of the greater rank is put
-  found_there : (at : ℕ) (other : Report) → IsReportPlace report reports (Ok at) → other ≡ get_or reports at other → put_report (report_seen report) (map report_seen reports) ≡ set (map report_seen reports) at (of_greater_rank (report_seen report) (report_seen other))
+  found_there : (at : ℕ) (other : Report) → IsReportPlace (report_seen report) (map report_seen reports) (Ok at) → other ≡ get_or reports at other → put_report (report_seen report) (map report_seen reports) ≡ set (map report_seen reports) at (of_greater_rank (report_seen report) (report_seen other))
   found_there at other found read =
-      let within : at < length (map report_seen reports) = omega (arith, length_seen reports, found.0) in
-      let same : report_cmp (report_seen other) (report_seen report) ≡ Equal = ap (λ r. report_cmp (report_seen r) (report_seen report)) read ∙ found.1 other in
-      let seen : report_seen other ≡ get_or (map report_seen reports) at (report_seen other) = ap report_seen read ∙ sym (get_or-map report_seen reports at other (report_seen other) found.0) in
-      put-found report_cmp report_cmp_total (report_seen report) (of_greater_rank (report_seen report)) (map report_seen reports) at (report_seen other) in_order within seen
+      let within : at < length reports = omega (arith, length_seen reports, found.0) in
+      let seen : report_seen other ≡ get_or (map report_seen reports) at (report_seen other) = ap report_seen read ∙ sym (get_or-map report_seen reports at other (report_seen other) within) in
+      let same : report_cmp (report_seen other) (report_seen report) ≡ Equal = ap (λ y. report_cmp y (report_seen report)) seen ∙ found.1 (report_seen other) in
+      put-found report_cmp report_cmp_total (report_seen report) (of_greater_rank (report_seen report)) (map report_seen reports) at (report_seen other) in_order found.0 seen
       (tied_back report_cmp_total (report_seen other) (report_seen report) same)
 
-  pub put-replaced : (at : ℕ) (other : Report) → IsReportPlace report reports (Ok at) → other ≡ get_or reports at other → is_below (report_seen report) (report_seen other) ≡ false → map report_seen (set reports at report) ≡ put_report (report_seen report) (map report_seen reports)
+  pub put-replaced : (at : ℕ) (other : Report) → IsReportPlace (report_seen report) (map report_seen reports) (Ok at) → other ≡ get_or reports at other → is_below (report_seen report) (report_seen other) ≡ false → map report_seen (set reports at report) ≡ put_report (report_seen report) (map report_seen reports)
   put-replaced at other found read first =
       map-set report_seen reports at report ∙ sym (found_there at other found read ∙ ap (λ b. set (map report_seen reports) at (if b then report_seen other else report_seen report)) first)
 
-  pub put-left : (at : ℕ) (other : Report) → IsReportPlace report reports (Ok at) → other ≡ get_or reports at other → is_below (report_seen report) (report_seen other) ≡ true → map report_seen reports ≡ put_report (report_seen report) (map report_seen reports)
+  pub put-left : (at : ℕ) (other : Report) → IsReportPlace (report_seen report) (map report_seen reports) (Ok at) → other ≡ get_or reports at other → is_below (report_seen report) (report_seen other) ≡ true → map report_seen reports ≡ put_report (report_seen report) (map report_seen reports)
   put-left at other found read second =
       let same : set reports at other ≡ reports = ap (set reports at) read ∙ set-get_or reports at other in
       sym (found_there at other found read ∙ ap (λ b. set (map report_seen reports) at (if b then report_seen other else report_seen report)) second ∙ sym (map-set report_seen reports at other) ∙ ap (map report_seen) same)
 
-  seen_at : (o : Ordering) (k : ℕ) (e : Applied) → k < length reports → ((d : Report) → report_cmp (report_seen (get_or reports k d)) (report_seen report) ≡ o) → report_cmp (get_or (map report_seen reports) k e) (report_seen report) ≡ o
-  seen_at o k e h at_k = ap (λ y. report_cmp y (report_seen report)) (get_or-map report_seen reports k report e h) ∙ at_k report
-
-  parted_seen : (at : ℕ) → IsReportPlace report reports (Err at) → IsPartitionPoint (λ y. report_cmp y (report_seen report) ≡ Less) (λ y. report_cmp y (report_seen report) ≡ Greater) (map report_seen reports) at
-  parted_seen at gap = (
-    λ k e low high. seen_at Less k e (omega (arith, gap.0, high)) (λ d. gap.1.0 k d low high),
-    λ k e low high. let within : k < length reports = omega (arith, length_seen reports, high) in seen_at Greater k e within (λ d. gap.1.1 k d low within),
-  )
-
-  pub put-inserted : (at : ℕ) → IsReportPlace report reports (Err at) → map report_seen (insert reports at report) ≡ put_report (report_seen report) (map report_seen reports)
+  pub put-inserted : (at : ℕ) → IsReportPlace (report_seen report) (map report_seen reports) (Err at) → map report_seen (insert reports at report) ≡ put_report (report_seen report) (map report_seen reports)
   put-inserted at gap =
-      map-insert report_seen reports at report ∙ sym (put-gap report_cmp report_cmp_total (report_seen report) (of_greater_rank (report_seen report)) (map report_seen reports) at (omega (arith, length_seen reports, gap.0)) (parted_seen at gap))
+      map-insert report_seen reports at report ∙ sym (put-gap report_cmp report_cmp_total (report_seen report) (of_greater_rank (report_seen report)) (map report_seen reports) at gap.0 gap.1)
 
 -- ---- the latest
 

@@ -1,11 +1,14 @@
 -- Room is made for rows that can be counted.
-use Rattle.std.proofs.Common.{◌≡◌, ◌∙◌, ℕ, ◌<◌, ◌^◌, List, length, Option, Some, None, IfSome, refl, sym, ap, subst, arith, lit≤}
+use Rattle.std.proofs.Common.{◌≡◌, ◌∙◌, ℕ, ◌<◌, ◌^◌, List, [], length, Option, Some, None, Result, IfSome, refl, sym, ap, subst, arith, lit≤}
 use Rattle.std.specs.Option.{option_map, unwrap_or}
+use Rattle.std.specs.Vec.{vec_capacity}
 use Rattle.std.specs.declared.alloc.Global.{Global}
 use Rattle.std.specs.declared.vec.Vec.{Vec}
 use Rattle.checkpoint_spec.specs.fleet_rows.Change.{change_certname}
 use Rattle.checkpoint_spec.specs.fleet_rows.declared.change.Change.{Change}
 use Rattle.checkpoint_spec.specs.fleet_rows.declared.change.Change.TheVariants as change
+use Rattle.checkpoint_spec.specs.fleet_rows.declared.change.ReportChange.{ReportChange}
+use Rattle.checkpoint_spec.specs.fleet_rows.declared.applied.Applied.{Applied}
 use Rattle.checkpoint_spec.specs.fleet_rows.declared.row.Entity.{Entity}
 use Rattle.checkpoint_spec.specs.fleet_rows.declared.row.Entity.TheVariants.{Nodes, Factsets, Facts, Catalogs, Resources, Edges, Reports}
 use Rattle.checkpoint_spec.specs.table_machine.Table as machine
@@ -15,13 +18,16 @@ use Rattle.checkpoint_spec.specs.table_machine.Rows.{table_rows}
 use Rattle.checkpoint_spec.specs.table_spec.Rows.{factset_rows, fact_rows, catalog_rows, resource_rows, edge_rows, report_rows}
 use Rattle.fleet_tables.specs.Counted.{plus, count_of, counts_changed, IsWithin}
 use Rattle.fleet_tables.specs.Groups.{AreCountsOf}
-use Rattle.fleet_tables.specs.Rooms.{IsShownOf, HasRoomFor, IsNewFor, IsFirstFor, Fits, IsSpare, IsRoom, with_reports}
+use Rattle.row_cells.specs.Texts.{HasPrintableMoments}
+use Rattle.fleet_tables.specs.ReportPlaces.{IsPlaceAmong, IsPlaceFor}
+use Rattle.fleet_tables.specs.Rooms.{IsShownOf, IsShownFor, HasRoomFor, IsListFor, IsNewFor, IsFirstFor, Fits, IsSpare, IsRoom, with_reports}
 use Rattle.fleet_tables.specs.Places.{reports_of}
 use Rattle.fleet_tables.specs.declared.counts.Counts.{Counts}
 use Rattle.fleet_tables.specs.declared.kept.Report.{Report}
 use Rattle.fleet_tables.specs.declared.room.NewNode.{NewNode}
 use Rattle.fleet_tables.specs.declared.room.Derived.{Derived}
 use Rattle.fleet_tables.specs.declared.room.Derived.TheVariants as shown
+use Rattle.fleet_tables.specs.declared.room.ReportShown.{ReportShown}
 use Rattle.fleet_tables.specs.declared.room.Spare.{Spare}
 use Rattle.fleet_tables.proofs.RowCounts.{facts_length, resources_length, edges_length, nodes_count}
 
@@ -57,7 +63,7 @@ fits table total counted change w =
 
 -- ---- room for a change
 
-reports_kept : (o : Option machine.Node) → unwrap_or (option_map (λ (node : machine.Node). length node.reports) o) 0 ≡ reports_of o
+reports_kept : (o : Option machine.Node) → unwrap_or (option_map (λ (node : machine.Node). length node.reports) o) 0 ≡ length (reports_of o)
 reports_kept None = refl
 reports_kept (Some node) = refl
 
@@ -67,14 +73,22 @@ new_kept None (Some node) certname nodes h = h
 new_kept (Some new) None certname nodes h = h
 new_kept (Some new) (Some node) certname nodes h = h
 
+-- a list with room and the report's place are room for it
+room_of : (shown : Derived) (list : Vec Report Global) (place : Result ℕ ℕ) (change : Change) (n : ℕ) (reports : List Applied) → n ≡ length reports → IsListFor shown list n → IsPlaceFor change reports place
+    → HasRoomFor (with_reports shown list place) change reports
+room_of (shown.Facts s) list place change n reports same h p = tt
+room_of (shown.Catalog s) list place change n reports same h p = tt
+room_of (shown.Report s) list place change n reports same h p = (h.0, subst (λ (m : ℕ). m < vec_capacity list) same h.1, p)
+room_of shown.Nothing list place change n reports same h p = tt
+
 pub spare_at : (table : Table) (change : Change) (shown : Derived) (spare : Spare) (name : List ℕ) (reports : Option ℕ) (nodes : ℕ)
     → name ≡ change_certname change → nodes ≡ length table.nodes → reports ≡ option_map (λ (node : machine.Node). length node.reports) (find_node name table.nodes)
-    → HasRoomFor (with_reports shown spare.reports) (unwrap_or reports 0) → IsNewFor spare.new reports name nodes → IsFirstFor spare.first.items table.nodes → Fits table change
+    → IsListFor shown spare.reports (unwrap_or reports 0) → IsPlaceFor change (reports_of (find_node (change_certname change) table.nodes)) spare.place → IsNewFor spare.new reports name nodes → IsFirstFor spare.first.items table.nodes → Fits table change
     → IsSpare spare shown table change
-spare_at table change shown spare name reports nodes named number e room n first fits =
+spare_at table change shown spare name reports nodes named number e room place n first fits =
     let found = find_node (change_certname change) table.nodes in
     let same : reports ≡ option_map (λ (node : machine.Node). length node.reports) found = e ∙ ap (λ x. option_map (λ (node : machine.Node). length node.reports) (find_node x table.nodes)) named in (
-      subst (HasRoomFor (with_reports shown spare.reports)) (ap (λ r. unwrap_or r 0) same ∙ reports_kept found) room,
+      room_of shown spare.reports spare.place change (unwrap_or reports 0) (reports_of found) (ap (λ r. unwrap_or r 0) same ∙ reports_kept found) room place,
       new_kept spare.new found (change_certname change) (length table.nodes)
           (subst (λ (p : List ℕ × Option ℕ × ℕ). IsNewFor spare.new p.1 p.0 p.2) (λ i. (named i, same i, number i)) n),
       first,
@@ -83,21 +97,36 @@ spare_at table change shown spare name reports nodes named number e room n first
 
 -- ---- what is shown, and room for it
 
-shown_still : (shown : Derived) (change : Change) (reports : Vec Report Global) → IsShownOf shown change → IsShownOf (with_reports shown reports) change
-shown_still (shown.Facts s) change reports h = h
-shown_still (shown.Catalog s) change reports h = h
-shown_still (shown.Report s) (change.Report c) reports h = h
-shown_still (shown.Report s) (change.Facts c) reports h = absurd h
-shown_still (shown.Report s) (change.Catalog c) reports h = absurd h
-shown_still (shown.Report s) (change.Deactivate c) reports h = absurd h
-shown_still (shown.Report s) (change.Expiration c) reports h = absurd h
-shown_still shown.Nothing change reports h = h
+shown_still : (shown : Derived) (change : Change) (reports : Vec Report Global) (place : Result ℕ ℕ) → IsShownOf shown change → IsShownOf (with_reports shown reports place) change
+shown_still (shown.Facts s) change reports place h = h
+shown_still (shown.Catalog s) change reports place h = h
+shown_still (shown.Report s) (change.Report c) reports place h = h
+shown_still (shown.Report s) (change.Facts c) reports place h = absurd h
+shown_still (shown.Report s) (change.Catalog c) reports place h = absurd h
+shown_still (shown.Report s) (change.Deactivate c) reports place h = absurd h
+shown_still (shown.Report s) (change.Expiration c) reports place h = absurd h
+shown_still shown.Nothing change reports place h = h
 
-pub room_with : (spare : Spare) (shown with : Derived) (table other : Table) (change same : Change) → with ≡ with_reports shown spare.reports → other ≡ table → same ≡ change
+-- the list for a report is empty, and has room
+pub list_in_room : (s : ReportShown) (r : ReportChange) (reports : List Applied) → IsShownFor (shown.Report s) (change.Report r) reports → (s.reports.items ≡ []) × (length reports < vec_capacity s.reports)
+list_in_room s r reports h = let room : HasRoomFor (shown.Report s) (change.Report r) reports = h.1 in (room.0, room.1)
+
+-- the room for a report tells its place
+pub place_in_room : (s : ReportShown) (r : ReportChange) (reports : List Applied) → IsShownFor (shown.Report s) (change.Report r) reports → IsPlaceAmong r reports s.place
+place_in_room s r reports h = let room : HasRoomFor (shown.Report s) (change.Report r) reports = h.1 in room.2
+
+-- the moments of a report for which something is shown can be printed
+pub shown_printable : (shown : Derived) (r : ReportChange) → IsShownOf shown (change.Report r) → HasPrintableMoments r
+shown_printable (shown.Report s) r h = h.1
+shown_printable (shown.Facts s) r h = absurd h
+shown_printable (shown.Catalog s) r h = absurd h
+shown_printable shown.Nothing r h = absurd h
+
+pub room_with : (spare : Spare) (shown with : Derived) (table other : Table) (change same : Change) → with ≡ with_reports shown spare.reports spare.place → other ≡ table → same ≡ change
     → IsShownOf shown change → IsSpare spare shown table change → IsRoom with spare.new spare.first.items other same
 room_with spare shown with table other change same w e f h s =
     subst (λ (p : Derived × Table × Change). IsRoom p.0 spare.new spare.first.items p.1 p.2) (λ i. (sym w i, sym e i, sym f i))
-    (((shown_still shown change spare.reports h, s.0), s.1), s.2, s.3)
+    (((shown_still shown change spare.reports spare.place h, s.0), s.1), s.2, s.3)
 
 pub few_reports : (o : Option ℕ) → IfSome o (λ n. n < 2 ^ 63) → unwrap_or o 0 < 2 ^ 63
 few_reports None h = lit≤ tt

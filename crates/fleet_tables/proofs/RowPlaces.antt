@@ -16,9 +16,13 @@ use Rattle.checkpoint_spec.specs.fleet_rows.declared.settings.Ttls.{Ttls}
 use Rattle.checkpoint_spec.specs.history_spec.Facts.{FactRow, by_name}
 use Rattle.checkpoint_spec.specs.fleet_rows.declared.applied.Applied.{Applied}
 use Rattle.row_cells.specs.Rows.{IsRow, member_cells}
+use Rattle.row_cells.specs.Nodes.{IsHeadOf, cells_with_head}
+use Rattle.row_cells.specs.declared.node.ReportHead.{ReportHead}
 use Rattle.checkpoint_spec.proofs.of_table_machine.Filters.{map-map}
-use Rattle.checkpoint_spec.specs.table_spec.Cells.{fact_cells, report_cells}
-use Rattle.checkpoint_spec.specs.table_spec.Rows.{Cells, fact_rows, report_rows, node_cells}
+use Rattle.checkpoint_spec.specs.fleet_rows.Cell.{stamp, plain}
+use Rattle.checkpoint_spec.specs.history_spec.Report.{text_or_null, bool_or_null}
+use Rattle.checkpoint_spec.specs.table_spec.Cells.{fact_cells, report_cells, moment_or_null, text_cell}
+use Rattle.checkpoint_spec.specs.table_spec.Rows.{Cells, fact_rows, report_rows, node_cells, environment_cell, timestamp_cell, change_of}
 use Rattle.checkpoint_spec.specs.text_spec.Json.{Json, members_list}
 use Rattle.fleet_tables.specs.Counted.{none, counts, count_of, AreCountedFrom, with_facts, with_catalog}
 use Rattle.fleet_tables.specs.Kept.{IsFactOrder, IsNode}
@@ -138,11 +142,31 @@ counted_reports node =
 
 -- ---- the row of a node
 
-pub own_row_is : (r : Result Row AllocError) (x y z x' y' z' : Option Change) (name : List ℕ) (d e d' e' : Option ℤ) → x ≡ x' → y ≡ y' → z ≡ z' → d ≡ d' → e ≡ e'
-    → IfOk r (λ row. IsRow row Nodes (node_cells name d e x y z)) → IfOk r (λ row. IsRowAt row Nodes (node_cells name d' e' x' y' z' ∷ []) 0)
-own_row_is (Ok row) x y z x' y' z' name d e d' e' a b c p q made =
-    (made.0, (λ i. Some (node_cells name (sym p i) (sym q i) (sym a i) (sym b i) (sym c i))) ∙ ap (λ cells. Some cells) (sym made.1))
-own_row_is (Err err) x y z x' y' z' name d e d' e' a b c p q made = tt
+-- a head shows what its report does
+head_shows : (name : List ℕ) (d e : Option ℤ) (x y : Option Change) (head : Option ReportHead) (z : Option Change) → IsHeadOf head z → cells_with_head name d e x y head ≡ node_cells name d e x y z
+head_shows name d e x y None None h = refl
+head_shows name d e x y (Some head) (Some (change.Report r)) h =
+    λ i. environment_cell y ∷ timestamp_cell y ∷ text_cell name ∷ moment_or_null d ∷ moment_or_null e ∷ environment_cell x ∷ timestamp_cell x
+    ∷ text_cell (h.0 i) ∷ plain (bool_or_null (h.1 i)) ∷ plain (text_or_null (h.2 i)) ∷ plain (text_or_null (h.3 i)) ∷ stamp (h.4 i) ∷ []
+head_shows name d e x y None (Some z) h = absurd h
+head_shows name d e x y (Some head) None h = absurd h
+head_shows name d e x y (Some head) (Some (change.Facts c)) h = absurd h
+head_shows name d e x y (Some head) (Some (change.Catalog c)) h = absurd h
+head_shows name d e x y (Some head) (Some (change.Deactivate c)) h = absurd h
+head_shows name d e x y (Some head) (Some (change.Expiration c)) h = absurd h
+
+-- the head of the newest report
+pub head_for : (head : ReportHead) (r : Report) (newest : Option Applied) → Some (report_seen r) ≡ newest → IsHeadOf (Some head) (Some (change.Report r.change)) → IsHeadOf (Some head) (change_of newest)
+head_for head r newest is h = subst (λ (o : Option Applied). IsHeadOf (Some head) (change_of o)) is h
+
+pub no_head : (newest : Option Applied) → None ≡ newest → IsHeadOf None (change_of newest)
+no_head newest is = subst (λ (o : Option Applied). IsHeadOf None (change_of o)) is tt
+
+pub own_row_is : (r : Result Row AllocError) (x y x' y' z : Option Change) (head : Option ReportHead) (name : List ℕ) (d e d' e' : Option ℤ) → x ≡ x' → y ≡ y' → IsHeadOf head z → d ≡ d' → e ≡ e'
+    → IfOk r (λ row. IsRow row Nodes (cells_with_head name d e x y head)) → IfOk r (λ row. IsRowAt row Nodes (node_cells name d' e' x' y' z ∷ []) 0)
+own_row_is (Ok row) x y x' y' z head name d e d' e' a b c p q made =
+    (made.0, (λ i. Some (node_cells name (sym p i) (sym q i) (sym a i) (sym b i) z)) ∙ ap (λ cells. Some cells) (sym (made.1 ∙ head_shows name d e x y head z c)))
+own_row_is (Err err) x y x' y' z head name d e d' e' a b c p q made = tt
 
 pub single_at : (ttls : Ttls) (expiry : Option ℤ) (nodes : List Node) (i : ℕ) (node : Node) → slice_get nodes i ≡ Some node → slice_get (flat_map (node_rows Nodes ttls expiry) (map node_seen nodes)) i ≡ slice_get (node_rows Nodes ttls expiry (node_seen node)) 0
 single_at ttls expiry [] i node e = cc

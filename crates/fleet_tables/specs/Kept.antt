@@ -10,10 +10,11 @@ use Rattle.checkpoint_spec.specs.fleet_rows.declared.catalog.Edge.{Edge}
 use Rattle.checkpoint_spec.specs.fleet_rows.declared.catalog.Resource.{Resource}
 use Rattle.checkpoint_spec.specs.fleet_rows.declared.change.FactsChange.{FactsChange}
 use Rattle.checkpoint_spec.specs.history_spec.Facts.{by_name}
-use Rattle.checkpoint_spec.specs.history_spec.Report.{report_object, report_text}
+use Rattle.checkpoint_spec.specs.history_spec.Report.{report_object}
 use Rattle.checkpoint_spec.specs.table_machine.Table as machine
 use Rattle.checkpoint_spec.specs.table_spec.Cells.{hash, factset_object, catalog_object, resource_object}
 use Rattle.checkpoint_spec.specs.table_spec.Sorted.{sorted_by, resource_cmp, edge_cmp, report_cmp}
+use Rattle.row_cells.specs.Texts.{HasPrintableMoments}
 use Rattle.fleet_tables.specs.declared.counts.Counts.{Counts}
 use Rattle.fleet_tables.specs.declared.kept.Factset.{Factset}
 use Rattle.fleet_tables.specs.declared.kept.NodeCatalog.{NodeCatalog}
@@ -62,7 +63,7 @@ IsCatalog kept = IsCatalogShown kept.shown kept.change × IsStampMoment kept.cha
 
 abbrev pub IsReport : Report → Type 0
 IsReport kept =
-    (kept.text ≡ report_text kept.change)
+    HasPrintableMoments kept.change
     × IfSome kept.hash (λ h. h ≡ hash (report_object kept.change))
     × IsStampMoment kept.change.stamp
 

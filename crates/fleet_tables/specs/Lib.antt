@@ -4,6 +4,7 @@ pub mod Asked
 pub mod Counted
 pub mod Groups
 pub mod Places
+pub mod Packed
 pub mod Kept
 pub mod ReportPlaces
 pub mod Rooms

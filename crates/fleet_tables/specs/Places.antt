@@ -6,6 +6,7 @@ use Rattle.std.specs.declared.alloc.Global.{Global}
 use Rattle.std.specs.declared.boxed.Box.{Box}
 use Rattle.std.specs.declared.cmp.Ordering.TheVariants.{Less, Greater}
 use Rattle.checkpoint_spec.specs.text_spec.Compact.{text_cmp}
+use Rattle.checkpoint_spec.specs.fleet_rows.declared.applied.Applied.{Applied}
 use Rattle.checkpoint_spec.specs.fleet_rows.declared.row.Entity.{Entity}
 use Rattle.checkpoint_spec.specs.table_machine.Table as machine
 use Rattle.checkpoint_spec.specs.table_machine.Node.{node_purged}
@@ -51,14 +52,13 @@ recounted before (node ∷ nodes) = record node { before = before } ∷ recounte
 abbrev pub HasRow : Entity → ℕ → Node → Type 0
 HasRow entity i node = (count_of entity node.before ≤ i) × (i < count_of entity node.before + count_of entity (counts node))
 
-abbrev pub reports_of : Option machine.Node → ℕ
-reports_of None = 0
-reports_of (Some node) = length node.reports
+abbrev pub reports_of : Option machine.Node → List Applied
+reports_of None = []
+reports_of (Some node) = node.reports
 
--- the index of the node to change for this certname; if the old list lacked the node, the new list has one with an empty list of
--- reports there
+-- the index of the node to change for this certname; if the old list lacked the node, the new list has one without reports there
 abbrev pub IsNodeFor : List ℕ → List machine.Node → List machine.Node → ℕ → Type 0
 IsNodeFor certname old new at =
     (node : machine.Node) → slice_get new at ≡ Some node
-    → (length node.reports ≡ reports_of (find_node certname old))
+    → (node.reports ≡ reports_of (find_node certname old))
     × ((change : machine.Node → machine.Node) → with_node certname change old ≡ slice_set new at (change node))

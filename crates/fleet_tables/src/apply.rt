@@ -1,19 +1,22 @@
 //! Applies a command to its node.
-ghost use Rattle.std.specs.Prelude.{◌≡◌, ℤ, Option, false, length, IfSome};
+ghost use Rattle.std.specs.Prelude.{◌≡◌, ℤ, [], Option, false, map, IfSome};
+ghost use Rattle.std.specs.List.{AllByRecursion};
+ghost use Rattle.std.specs.List.Sorted.{IsStrictlySortedBy};
 ghost use Rattle.checkpoint_spec.specs.stamp_time.Range.{IsStampMoment};
 ghost use Rattle.checkpoint_spec.specs.fleet_rows.Change.{change_stamp};
 ghost use Rattle.checkpoint_spec.specs.fleet_rows.declared.change.Change.TheVariants as changes;
 ghost use Rattle.checkpoint_spec.specs.fleet_rows.declared.settings.Ttls.{Ttls};
 ghost use Rattle.checkpoint_spec.specs.history_spec.Node.{later};
 ghost use Rattle.checkpoint_spec.specs.history_spec.Trace.{applied_as};
-ghost use Rattle.checkpoint_spec.specs.table_machine.Steps.{with_applied};
+ghost use Rattle.checkpoint_spec.specs.table_spec.Sorted.{report_cmp};
+ghost use Rattle.checkpoint_spec.specs.table_machine.Steps.{with_applied, put_report, limited};
 ghost use Rattle.fleet_tables.specs.Counted.{counts};
-ghost use Rattle.fleet_tables.specs.Kept.{IsNode};
+ghost use Rattle.fleet_tables.specs.Kept.{IsNode, IsReport};
 ghost use Rattle.fleet_tables.specs.Rooms.{IsShownFor};
-ghost use Rattle.fleet_tables.specs.Seen.{node_seen};
+ghost use Rattle.fleet_tables.specs.Seen.{node_seen, report_seen};
 ghost use Rattle.fleet_tables.specs.declared.room.Derived.TheVariants as kinds;
 
-use crate::kept::{Deactivation, Expiration, Factset, NodeCatalog, Report};
+use crate::kept::{Deactivation, Expiration, Factset, HeldReport, NodeCatalog};
 use crate::node::Node;
 use crate::reports::add_report;
 use crate::room::{Derived, ReportShown};
@@ -37,7 +40,7 @@ impl Node {
         shown: Derived,
     ) -> bool
         requires kept { IsNode self.old }
-        requires shown { IsShownFor shown change (length self.old.reports.items) }
+        requires shown { IsShownFor shown change (map report_seen self.old.reports.items) }
         requires stamp { IsStampMoment (change_stamp change) }
         requires retention { IfSome retention.now IsStampMoment }
         ensures seen { node_seen self.new ≡ with_applied ttls.now retention.now (applied_as receipt received change) (node_seen self.old) }
@@ -60,7 +63,7 @@ impl Node {
         shown: Derived,
     )
         requires kept { IsNode self.old }
-        requires shown { IsShownFor shown change (length self.old.reports.items) }
+        requires shown { IsShownFor shown change (map report_seen self.old.reports.items) }
         requires stamp { IsStampMoment (change_stamp change) }
         requires retention { IfSome retention.now IsStampMoment }
         ensures seen { node_seen self.new ≡ with_applied ttls.now retention.now (applied_as receipt received change) (node_seen self.old) }
@@ -91,7 +94,7 @@ impl Node {
         shown: FactsShown,
     )
         requires kept { IsNode self.old }
-        requires shown { IsShownFor (kinds.Facts shown) (changes.Facts change) 0 }
+        requires shown { IsShownFor (kinds.Facts shown) (changes.Facts change) [] }
         requires stamp { IsStampMoment change.stamp }
         ensures seen { (ttls : Ttls) (retention : Option ℤ)
             → node_seen self.new ≡ with_applied ttls retention (applied_as receipt received (changes.Facts change)) (node_seen self.old) }
@@ -121,7 +124,7 @@ impl Node {
         shown: CatalogShown,
     )
         requires kept { IsNode self.old }
-        requires shown { IsShownFor (kinds.Catalog shown) (changes.Catalog change) 0 }
+        requires shown { IsShownFor (kinds.Catalog shown) (changes.Catalog change) [] }
         requires stamp { IsStampMoment change.stamp }
         ensures seen { (ttls : Ttls) (retention : Option ℤ)
             → node_seen self.new ≡ with_applied ttls retention (applied_as receipt received (changes.Catalog change)) (node_seen self.old) }
@@ -153,7 +156,7 @@ impl Node {
         shown: ReportShown,
     )
         requires kept { IsNode self.old }
-        requires shown { IsShownFor (kinds.Report shown) (changes.Report change) (length self.old.reports.items) }
+        requires shown { IsShownFor (kinds.Report shown) (changes.Report change) (map report_seen self.old.reports.items) }
         requires stamp { IsStampMoment change.stamp }
         requires retention { IfSome retention.now IsStampMoment }
         ensures seen { node_seen self.new ≡ with_applied ttls.now retention.now (applied_as receipt received (changes.Report change)) (node_seen self.old) }
@@ -162,14 +165,14 @@ impl Node {
     {
         self.wake(change.stamp);
         if is_retained(ttls, retention, change.stamp) {
-            let report = shown.held.holding(Report {
+            keep_report(
+                &mut self.reports,
+                &ttls.report_count,
                 receipt,
                 received,
                 change,
-                text: shown.text,
-                hash: shown.hash,
-            });
-            add_report(&mut self.reports, shown.reports, &ttls.report_count, report);
+                shown,
+            );
         }
     }
 
@@ -222,6 +225,30 @@ impl Node {
     {
         self.active = later(stamp, self.active);
     }
+}
+
+// Keeps a report among these of its node, in the room that was made for it.
+fn keep_report(
+    reports: &mut Vec<HeldReport>,
+    limit: &Option<u32>,
+    receipt: u64,
+    received: Option<Moment>,
+    change: ReportChange,
+    shown: ReportShown,
+)
+    requires each { AllByRecursion IsReport reports.old.items }
+    requires in_order { IsStrictlySortedBy report_cmp (map report_seen reports.old.items) }
+    requires shown { IsShownFor (kinds.Report shown) (changes.Report change) (map report_seen reports.old.items) }
+    requires stamp { IsStampMoment change.stamp }
+    ensures seen { map report_seen reports.new.items
+        ≡ limited limit.now (put_report (applied_as receipt received (changes.Report change)) (map report_seen reports.old.items)) }
+    ensures each { AllByRecursion IsReport reports.new.items }
+    ensures in_order { IsStrictlySortedBy report_cmp (map report_seen reports.new.items) }
+{
+    let report = shown
+        .held
+        .keeping(receipt, received, change, shown.lists, shown.hash);
+    add_report(reports, shown.reports, shown.place, limit, report);
 }
 
 /// The later of two moments.

@@ -12,10 +12,12 @@ ghost use Rattle.checkpoint_spec.specs.history_spec.Trace.{applied_as};
 ghost use Rattle.checkpoint_spec.specs.table_machine.Node.{node_inactive};
 ghost use Rattle.checkpoint_spec.specs.table_machine.Steps.{find_node, with_node, with_applied, with_retained};
 ghost use Rattle.checkpoint_spec.specs.table_machine.Table as machine;
+ghost use Rattle.row_cells.specs.Texts.{HasPrintableMoments};
 ghost use Rattle.fleet_tables.specs.Counted.{IsCountedBefore, IsWithin, total_from, none};
 ghost use Rattle.fleet_tables.specs.Groups.{IsFilled, AreCountsOf, AreFew, rows_of, starts_above};
 ghost use Rattle.fleet_tables.specs.Kept.{IsNode};
-ghost use Rattle.fleet_tables.specs.Places.{nodes_in, seen_in, left_by_purge, InOrder, IsNodeFor};
+ghost use Rattle.fleet_tables.specs.Places.{nodes_in, seen_in, left_by_purge, InOrder, IsNodeFor, reports_of};
+ghost use Rattle.fleet_tables.specs.ReportPlaces.{IsPlaceAmong};
 ghost use Rattle.fleet_tables.specs.Rooms.{IsRoomAt, IsNewFor};
 ghost use Rattle.fleet_tables.specs.Rows.{IsRowAt};
 ghost use Rattle.fleet_tables.specs.Seen.{newest_rank};
@@ -27,7 +29,7 @@ use crate::places::{count_from, node_of_row, place_of};
 use crate::room::{Derived, NewNode};
 use fleet_rows::json_tree::Text;
 use fleet_rows::stamp_time::Moment;
-use fleet_rows::{Change, Entity, Kind, Rank, Row, Ttls};
+use fleet_rows::{Change, Entity, Kind, Rank, ReportChange, Row, Ttls};
 use std::alloc::{AllocError, Global};
 use std::marker::Model;
 
@@ -122,6 +124,21 @@ impl Group {
         match place_of(self.nodes.as_slice(), certname.as_str()) {
             Ok(at) => Some(self.nodes[at].reports.len()),
             Err(_) => None,
+        }
+    }
+
+    /// The place of a report among those of its node.
+    pub(crate) fn place_of_report(
+        &self,
+        alloc: Global,
+        report: &ReportChange,
+    ) -> Result<Result<usize, usize>, AllocError>
+        requires { HasPrintableMoments report.now }
+        ensures { IfOk result (IsPlaceAmong report.now (reports_of (find_node report.now.certname self.now))) }
+    {
+        match place_of(self.nodes.as_slice(), report.certname.as_str()) {
+            Ok(at) => self.nodes[at].place_for_report(alloc, report),
+            Err(_) => Ok(Err(0)),
         }
     }
 

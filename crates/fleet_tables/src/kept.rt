@@ -1,17 +1,23 @@
 //! The commands that a node keeps, with what is computed of them.
-ghost use Rattle.std.specs.Prelude.{◌≡◌, IfOk};
+ghost use Rattle.std.specs.Prelude.{◌≡◌, IfOk, IfSome};
 ghost use Rattle.checkpoint_spec.specs.history_spec.Report.{report_object};
-ghost use Rattle.checkpoint_spec.specs.history_spec.Trace.{rank_of};
+ghost use Rattle.checkpoint_spec.specs.stamp_time.Range.{IsStampMoment};
+ghost use Rattle.checkpoint_spec.specs.fleet_rows.declared.change.Change.TheVariants as changes;
+ghost use Rattle.checkpoint_spec.specs.history_spec.Trace.{applied_as, rank_of};
 ghost use Rattle.checkpoint_spec.specs.table_spec.Cells.{hash};
+ghost use Rattle.row_cells.specs.Texts.{HasPrintableMoments};
+ghost use Rattle.fleet_tables.specs.Packed.{AreListsOf};
 ghost use Rattle.fleet_tables.specs.Kept.{IsReport};
 ghost use Rattle.fleet_tables.specs.Seen.{facts_seen, catalog_seen, deactivation_seen, expiration_seen, report_seen};
 
+use crate::packed::{PackedLists, PackedReport};
 use crate::shown::{CatalogShown, FactsShown};
-use fleet_rows::json_tree::{Bytes, Items, Text};
+use fleet_rows::json_tree::Text;
 use fleet_rows::stamp_time::Moment;
 use fleet_rows::{
     CatalogChange, DeactivateChange, ExpirationChange, FactsChange, Rank, ReportChange, sha1_hex,
 };
+use row_cells::report_canonical;
 use std::alloc::{AllocError, Global};
 use std::marker::Model;
 
@@ -54,10 +60,8 @@ pub(crate) struct Expiration {
 pub(crate) struct Report {
     pub receipt: u64,
     pub received: Option<Moment>,
-    pub change: ReportChange,
-    /// The canonical text.
-    pub text: Bytes,
-    /// The SHA-1 of the text in hexadecimal, if it is computed.
+    pub change: PackedReport,
+    /// The SHA-1 of its canonical text in hexadecimal, if it is computed.
     pub hash: Option<Text>,
 }
 
@@ -87,12 +91,36 @@ impl HeldReport {
     }
 
     /// Stores the report in this memory.
-    pub(crate) fn holding(self, report: Report) -> HeldReport
+    fn holding(self, report: Report) -> HeldReport
         ensures { result ≡ report }
     {
         let mut held = self.report;
         *held = report;
         HeldReport { report: held }
+    }
+
+    /// Keeps a report in this memory. Its lists were packed in advance, and its hash may be computed.
+    pub(crate) fn keeping(
+        self,
+        receipt: u64,
+        received: Option<Moment>,
+        change: ReportChange,
+        lists: PackedLists,
+        digest: Option<Text>,
+    ) -> HeldReport
+        requires lists { AreListsOf lists change }
+        requires printable { HasPrintableMoments change }
+        requires digest { IfSome digest (λ h. h ≡ hash (report_object change)) }
+        requires stamp { IsStampMoment change.stamp }
+        ensures kept { IsReport result }
+        ensures seen { report_seen result ≡ applied_as receipt received (changes.Report change) }
+    {
+        self.holding(Report {
+            receipt,
+            received,
+            change: PackedReport::of(change, lists),
+            hash: digest,
+        })
     }
 
     pub(crate) fn report(&self) -> &Report
@@ -158,28 +186,10 @@ impl Expiration {
 impl Report {
     // A blank report, which holds the memory until the real one comes.
     fn blank(alloc: Global) -> Result<Report, AllocError> {
-        let change = ReportChange {
-            certname: Text::from_str(alloc, "")?,
-            environment: None,
-            puppet_version: None,
-            report_format: None,
-            configuration_version: None,
-            start_time: None,
-            end_time: None,
-            stamp: Moment::from_nanosecond(0),
-            producer: None,
-            noop: None,
-            status: None,
-            transaction_uuid: None,
-            resources: Items::new(alloc),
-            logs: Items::new(alloc),
-            metrics: Items::new(alloc),
-        };
         Ok(Report {
             receipt: 0,
             received: None,
-            change,
-            text: Bytes::from_vec(Vec::new(alloc)),
+            change: PackedReport::blank(alloc)?,
             hash: None,
         })
     }
@@ -188,7 +198,7 @@ impl Report {
         ensures { result ≡ rank_of (report_seen self.now) }
     {
         Rank {
-            stamp: self.change.stamp,
+            stamp: self.change.stamp(),
             receipt: self.receipt,
         }
     }
@@ -205,10 +215,21 @@ impl Report {
     }
 
     /// The hash of the canonical text, as 40 hexadecimal digits.
+    #[tactic(auto, using(crate::proofs::PackedLaws::printable_same))]
     pub(crate) fn digest(&self, alloc: Global) -> Result<Text, AllocError>
         requires { IsReport self.now }
         ensures { IfOk result (λ digest. digest ≡ hash (report_object self.now.change)) }
     {
-        sha1_hex(alloc, self.text.as_slice())
+        let change = self.change.unpack(alloc)?;
+        report_digest(alloc, &change)
     }
+}
+
+/// The hash of a report: the SHA-1 of its canonical text, as 40 hexadecimal digits.
+pub(crate) fn report_digest(alloc: Global, change: &ReportChange) -> Result<Text, AllocError>
+    requires { HasPrintableMoments change.now }
+    ensures { IfOk result (λ digest. digest ≡ hash (report_object change.now)) }
+{
+    let text = report_canonical(alloc, change)?;
+    sha1_hex(alloc, text.as_slice())
 }

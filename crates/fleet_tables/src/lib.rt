@@ -21,8 +21,13 @@
 //!
 //! A row shows hashes, and the orders of facts, resources and edges decide its index. Both depend only on the command and are
 //! stored in parts, each present or absent (`FactsShown`, `CatalogShown`). `Prepared::of` computes all parts without the tables.
-//! `reserve_prepared` computes nothing, and `reserve` only a report's canonical text, which orders reports. `prepare` computes
-//! the parts of an entity for all nodes. Otherwise `row` computes them for its row.
+//! `reserve_prepared` computes nothing, and `reserve` only packs a report. `prepare` computes the parts of an entity for all nodes.
+//! Otherwise `row` computes them for its row.
+//!
+//! A report's lists are kept as their compact texts (`PackedReport`), since they are most of what tables hold, and a tree of them
+//! takes three times as much. Rows of `reports` unpack one report each; rows of `nodes` need no list. Reports of a node stand by
+//! timestamp, then by canonical text. No text is kept: `reserve` finds the report's place, and makes texts only of reports with
+//! the same timestamp.
 //!
 //! Nodes are stored in groups of neighbours (`Group`). `reserve` splits a group of 256 nodes or more before a node in it is added
 //! or changed. So a command needs one binary search, moves and recounts the nodes of one group at most, and adjusts the total. A
@@ -51,6 +56,7 @@ mod listed;
 mod lists;
 mod marks;
 mod node;
+mod packed;
 mod places;
 mod preparing;
 mod reports;

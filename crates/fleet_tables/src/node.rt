@@ -1,16 +1,19 @@
 //! Stores a node: its newest commands, its activity and its kept reports.
-ghost use Rattle.std.specs.Prelude.{◌≡◌};
+ghost use Rattle.std.specs.Prelude.{◌≡◌, map, IfOk};
 ghost use Rattle.checkpoint_spec.specs.table_machine.Steps.{empty_node};
+ghost use Rattle.row_cells.specs.Texts.{HasPrintableMoments};
 ghost use Rattle.fleet_tables.specs.Counted.{none, counts};
 ghost use Rattle.fleet_tables.specs.Kept.{IsNode};
-ghost use Rattle.fleet_tables.specs.Seen.{node_seen, newest_rank, is_outranked_by_none};
+ghost use Rattle.fleet_tables.specs.ReportPlaces.{IsPlaceAmong};
+ghost use Rattle.fleet_tables.specs.Seen.{node_seen, report_seen, newest_rank, is_outranked_by_none};
 
 use crate::counts::Counts;
 use crate::kept::{Deactivation, Expiration, Factset, HeldReport, NodeCatalog};
+use crate::reports::place_of;
 use fleet_rows::json_tree::Text;
 use fleet_rows::stamp_time::Moment;
-use fleet_rows::{Kind, Rank};
-use std::alloc::Global;
+use fleet_rows::{Kind, Rank, ReportChange};
+use std::alloc::{AllocError, Global};
 
 /// What is stored of one node.
 #[derive(Drop)]
@@ -69,6 +72,19 @@ impl Node {
             reports: self.reports.len(),
             nodes: 1,
         }
+    }
+
+    /// The place of a report among those that are kept.
+    pub(crate) fn place_for_report(
+        &self,
+        alloc: Global,
+        report: &ReportChange,
+    ) -> Result<Result<usize, usize>, AllocError>
+        requires kept { IsNode self.now }
+        requires printable { HasPrintableMoments report.now }
+        ensures { IfOk result (IsPlaceAmong report.now (map report_seen self.now.reports.items)) }
+    {
+        place_of(alloc, self.reports.as_slice(), report)
     }
 
     /// The rank of the newest command of this kind; None for reports.

@@ -1,27 +1,26 @@
-//! Prepares a change before it is applied: takes its memory, and computes a report's canonical text and, if asked, all hashes and
-//! orders.
+//! Prepares a change before it is applied: takes its memory, packs a report's lists, and computes all hashes and orders if asked.
 ghost use Rattle.std.specs.Prelude.{◌≡◌, ◌<◌, ◌^◌, IfOk};
-ghost use Rattle.checkpoint_spec.specs.history_spec.Lawful.{IsChange};
-ghost use Rattle.row_cells.specs.Texts.{HasPrintableMoments};
+ghost use Rattle.checkpoint_spec.specs.history_spec.Lawful.{IsChange, IsReportChange};
 ghost use Rattle.checkpoint_spec.specs.fleet_rows.declared.change.Change.TheVariants as changes;
-ghost use Rattle.fleet_tables.specs.Rooms.{IsShownOf, HasRoomFor, with_reports};
+ghost use Rattle.fleet_tables.specs.Packed.{AreListsOf};
+ghost use Rattle.fleet_tables.specs.Rooms.{IsShownOf, IsListFor, with_reports};
 ghost use Rattle.fleet_tables.specs.declared.room.Derived.TheVariants as kinds;
 
 use crate::group::Group;
-use crate::kept::HeldReport;
+use crate::kept::{HeldReport, report_digest};
 use crate::lists::room_for_more;
 use crate::node::Node;
+use crate::packed::PackedLists;
 use crate::shown::{CatalogShown, FactsShown};
 use crate::state::State;
-use fleet_rows::json_tree::{Bytes, Text};
-use fleet_rows::{Change, ReportChange, sha1_hex};
-use row_cells::report_canonical;
+use fleet_rows::json_tree::Text;
+use fleet_rows::{Change, ReportChange};
 use std::alloc::{AllocError, Global};
 use std::marker::Model;
 use std::snapshot::Snapshot;
 
-/// A change with all that is computed of it in advance: hashes, orders of rows and a report's canonical text. It is made without
-/// the tables, so any thread may make it. Contracts see the change.
+/// A change with all that is computed of it in advance: hashes, orders of rows and a report's packed lists. It is made without the
+/// tables, so any thread may make it. Contracts see the change.
 #[derive(Drop)]
 pub struct Prepared {
     pub(crate) change: Change,
@@ -110,6 +109,8 @@ impl Room {
 pub(crate) struct Spare {
     /// For a report: an empty list with room for the node's reports and one more. It is used if their own list is full.
     pub reports: Vec<HeldReport>,
+    /// For a report: its place among them.
+    pub place: Result<usize, usize>,
     /// The node to add, if the tables don't have it yet.
     pub new: Option<NewNode>,
     /// A list with one empty group, if the tables have no group.
@@ -134,13 +135,15 @@ pub(crate) enum Derived {
 
 #[derive(Drop)]
 pub(crate) struct ReportShown {
-    pub text: Bytes,
-    /// The SHA-1 of the text in hexadecimal, if it is computed.
+    pub lists: PackedLists,
+    /// The SHA-1 of the canonical text in hexadecimal, if it is computed.
     pub hash: Option<Text>,
     /// Memory for the report.
     pub held: HeldReport,
     /// Empty at first. Making room puts the list of `Spare` here.
     pub reports: Vec<HeldReport>,
+    /// Any place at first. Making room puts that of `Spare` here.
+    pub place: Result<usize, usize>,
 }
 
 /// Computes everything that the change's rows show.
@@ -156,7 +159,7 @@ pub(crate) fn shown_by(alloc: Global, change: &Change) -> Result<Derived, AllocE
     }
 }
 
-/// Computes only the canonical text of a report, which orders reports. Everything else is left for later.
+/// Packs the lists of a report. Everything else is left for later.
 pub(crate) fn needed_by(alloc: Global, change: &Change) -> Result<Derived, AllocError>
     requires { IsChange change.now }
     ensures { IfOk result (λ s. IsShownOf s change.now) }
@@ -169,33 +172,40 @@ pub(crate) fn needed_by(alloc: Global, change: &Change) -> Result<Derived, Alloc
     }
 }
 
+#[tactic(auto, using(crate::proofs::Printable::report_moments))]
 fn report_shown(alloc: Global, change: &ReportChange) -> Result<ReportShown, AllocError>
-    requires { HasPrintableMoments change.now }
+    requires { IsReportChange change.now }
     ensures { IfOk result (λ s. IsShownOf (kinds.Report s) (changes.Report change.now)) }
 {
-    let text = report_canonical(alloc, change)?;
-    let hash = sha1_hex(alloc, text.as_slice())?;
-    report_with(alloc, text, Some(hash))
+    let hash = report_digest(alloc, change)?;
+    report_with(alloc, change, Some(hash))
 }
 
+#[tactic(auto, using(crate::proofs::Printable::report_moments))]
 fn report_needed(alloc: Global, change: &ReportChange) -> Result<ReportShown, AllocError>
-    requires { HasPrintableMoments change.now }
+    requires { IsReportChange change.now }
     ensures { IfOk result (λ s. IsShownOf (kinds.Report s) (changes.Report change.now)) }
 {
-    let text = report_canonical(alloc, change)?;
-    report_with(alloc, text, None)
+    report_with(alloc, change, None)
 }
 
-fn report_with(alloc: Global, text: Bytes, hash: Option<Text>) -> Result<ReportShown, AllocError>
-    ensures text { IfOk result (λ s. s.text ≡ text) }
+fn report_with(
+    alloc: Global,
+    change: &ReportChange,
+    hash: Option<Text>,
+) -> Result<ReportShown, AllocError>
+    requires { IsReportChange change.now }
+    ensures lists { IfOk result (λ s. AreListsOf s.lists change.now) }
     ensures hash { IfOk result (λ s. s.hash ≡ hash) }
 {
+    let lists = PackedLists::of(alloc, change)?;
     let held = HeldReport::blank(alloc)?;
     Ok(ReportShown {
-        text,
+        lists,
         hash,
         held,
         reports: Vec::new(alloc),
+        place: Err(0),
     })
 }
 
@@ -206,7 +216,7 @@ pub(crate) fn room_for_reports(
     reports: usize,
 ) -> Result<Vec<HeldReport>, AllocError>
     requires { reports < 2 ^ 63 }
-    ensures { IfOk result (λ room. HasRoomFor (with_reports shown.now room) reports) }
+    ensures { IfOk result (λ room. IsListFor shown.now room reports) }
 {
     match shown {
         Derived::Report(_) => room_for_more(alloc, reports),
@@ -215,12 +225,20 @@ pub(crate) fn room_for_reports(
 }
 
 impl Derived {
-    /// Puts the list for a report into place.
-    pub(crate) fn with_reports(self, reports: Vec<HeldReport>) -> Derived
-        ensures { result ≡ with_reports self reports }
+    /// Puts the list for a report, and its place, where they belong.
+    pub(crate) fn with_reports(
+        self,
+        reports: Vec<HeldReport>,
+        place: Result<usize, usize>,
+    ) -> Derived
+        ensures { result ≡ with_reports self reports place }
     {
         match self {
-            Derived::Report(shown) => Derived::Report(ReportShown { reports, ..shown }),
+            Derived::Report(shown) => Derived::Report(ReportShown {
+                reports,
+                place,
+                ..shown
+            }),
             other => other,
         }
     }

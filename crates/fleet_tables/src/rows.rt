@@ -6,10 +6,9 @@ ghost use Rattle.checkpoint_spec.specs.fleet_rows.declared.command.Kind.TheVaria
 ghost use Rattle.checkpoint_spec.specs.fleet_rows.declared.row.Entity.TheVariants as entities;
 ghost use Rattle.checkpoint_spec.specs.fleet_rows.declared.settings.Ttls.{Ttls};
 ghost use Rattle.checkpoint_spec.specs.history_spec.Node.{newest};
-ghost use Rattle.checkpoint_spec.specs.history_spec.Report.{report_object};
-ghost use Rattle.checkpoint_spec.specs.table_spec.Cells.{hash, factset_cells, catalog_cells, report_cells};
+ghost use Rattle.checkpoint_spec.specs.table_spec.Cells.{factset_cells, catalog_cells, report_cells};
 ghost use Rattle.checkpoint_spec.specs.table_spec.Rows.{change_of, fact_rows, resource_rows, edge_rows};
-ghost use Rattle.row_cells.specs.Nodes.{facts_of, catalog_of, report_of};
+ghost use Rattle.row_cells.specs.Nodes.{facts_of, catalog_of, IsHeadOf};
 ghost use Rattle.row_cells.specs.Rows.{IsRow};
 ghost use Rattle.fleet_tables.specs.Counted.{counts, count_of};
 ghost use Rattle.fleet_tables.specs.Kept.{IsFactset, IsFactOrder, IsCatalog, AreResourcesShown, IsEdgeOrder, IsReport, IsNode};
@@ -17,21 +16,21 @@ ghost use Rattle.checkpoint_spec.specs.table_machine.Rows.{node_rows};
 ghost use Rattle.fleet_tables.specs.Rows.{IsRowAt};
 ghost use Rattle.fleet_tables.specs.Seen.{node_seen, facts_seen, catalog_seen, report_seen};
 
-use crate::kept::{Factset, HeldReport, NodeCatalog, Report};
+use crate::kept::{Factset, HeldReport, NodeCatalog, Report, report_digest};
 use crate::node::Node;
 use crate::reports::latest;
 use crate::shown::ResourcesShown;
-use fleet_rows::json_tree::Text;
 use fleet_rows::stamp_time::Moment;
-use fleet_rows::{CatalogChange, Entity, FactsChange, ReportChange, Row, Ttls};
+use fleet_rows::{CatalogChange, Entity, FactsChange, Row, Ttls};
 use row_cells::{
-    catalog_row, edge_order, edge_row, fact_order, fact_row, factset_hash, factset_row, node_row,
-    report_row, resource_row,
+    ReportHead, catalog_row, edge_order, edge_row, fact_order, fact_row, factset_hash, factset_row,
+    node_row, report_row, resource_row,
 };
 use std::alloc::{AllocError, Global};
 
 impl Node {
     // The row of the node itself.
+    #[tactic(auto, using(crate::proofs::RowPlaces::head_for, crate::proofs::RowPlaces::no_head))]
     pub(crate) fn own_row(
         &self,
         alloc: Global,
@@ -43,27 +42,26 @@ impl Node {
     {
         match self.latest_report() {
             Some(report) => match &report.hash {
-                Some(hash) => self.row_with(alloc, ttls, expiry, Some((&report.change, hash))),
+                Some(hash) => self.row_with(alloc, ttls, expiry, &Some(report.change.head(hash))),
                 None => {
                     let hash = report.digest(alloc)?;
-                    self.row_with(alloc, ttls, expiry, Some((&report.change, &hash)))
+                    self.row_with(alloc, ttls, expiry, &Some(report.change.head(&hash)))
                 }
             },
-            None => self.row_with(alloc, ttls, expiry, None),
+            None => self.row_with(alloc, ttls, expiry, &None),
         }
     }
 
-    // The node's row with this latest report and its hash.
+    // The node's row with the head of its latest report.
     fn row_with(
         &self,
         alloc: Global,
         ttls: &Ttls,
         expiry: &Option<Moment>,
-        report: Option<(&ReportChange, &Text)>,
+        report: &Option<ReportHead>,
     ) -> Result<Row, AllocError>
         requires kept { IsNode self.now }
-        requires hash { IfSome report (λ p. p.1.now ≡ hash (report_object p.0.now)) }
-        requires report { report_of report ≡ change_of (newest kind.Report (map report_seen self.now.reports.items)) }
+        requires report { IsHeadOf report.now (change_of (newest kind.Report (map report_seen self.now.reports.items))) }
         ensures { IfOk result (λ row. IsRowAt row entities.Nodes (node_rows entities.Nodes ttls.now expiry.now (node_seen self.now)) 0) }
     {
         node_row(
@@ -265,16 +263,18 @@ fn edge_at(
 }
 
 impl HeldReport {
+    #[tactic(auto, using(crate::proofs::PackedLaws::printable_same))]
     fn row(&self, alloc: Global) -> Result<Row, AllocError>
         requires { IsReport self.now }
         ensures { IfOk result (λ row. IsRow row entities.Reports (report_cells self.now.received self.now.change)) }
     {
         let kept = self.report();
+        let change = kept.change.unpack(alloc)?;
         match &kept.hash {
-            Some(hash) => report_row(alloc, kept.received, &kept.change, hash),
+            Some(hash) => report_row(alloc, kept.received, &change, hash),
             None => {
-                let hash = kept.digest(alloc)?;
-                report_row(alloc, kept.received, &kept.change, &hash)
+                let hash = report_digest(alloc, &change)?;
+                report_row(alloc, kept.received, &change, &hash)
             }
         }
     }

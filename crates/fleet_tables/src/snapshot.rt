@@ -20,7 +20,7 @@ use fleet_rows::json_tree::Text;
 use fleet_rows::stamp_time::Moment;
 use fleet_rows::{
     Applied, Change, Kepts, Mark, Marks, StoreList, copy_catalog, copy_deactivation,
-    copy_expiration, copy_facts, copy_report,
+    copy_expiration, copy_facts,
 };
 use std::alloc::{AllocError, Global};
 use std::cmp::Ordering;
@@ -292,7 +292,7 @@ fn push_report(alloc: Global, report: &HeldReport, commands: &mut Kepts) -> Resu
     ensures { OnOk result (commands.new ≡ commands.old ++ report_seen report.now ∷ []) }
 {
     let kept = report.report();
-    let change = copy_report(alloc, &kept.change)?;
+    let change = kept.change.unpack(alloc)?;
     push(
         commands,
         kept.receipt,

@@ -2,13 +2,17 @@
 ghost use Rattle.std.specs.Prelude.{◌≡◌, ◌<◌, ◌^◌, length, Some, None, IfOk, IfErr, IfSome, OnOk};
 ghost use Rattle.std.specs.Option.{option_map};
 ghost use Rattle.checkpoint_spec.specs.stamp_time.Range.{IsStampMoment};
+ghost use Rattle.checkpoint_spec.specs.fleet_rows.Change.{change_certname};
 ghost use Rattle.checkpoint_spec.specs.history_spec.Lawful.{IsChange};
 ghost use Rattle.checkpoint_spec.specs.history_spec.Trace.{applied_as};
 ghost use Rattle.checkpoint_spec.specs.table_machine.Rows.{table_rows};
 ghost use Rattle.checkpoint_spec.specs.table_machine.Steps.{empty_table, apply, expire, purge, retain, find_node};
 ghost use Rattle.checkpoint_spec.specs.table_machine.Table as machine;
+ghost use Rattle.row_cells.specs.Texts.{HasPrintableMoments};
 ghost use Rattle.fleet_tables.specs.Asked.{newest_in, is_inactive_in};
 ghost use Rattle.fleet_tables.specs.Counted.{IsWithin, plus, counts_changed};
+ghost use Rattle.fleet_tables.specs.Places.{reports_of};
+ghost use Rattle.fleet_tables.specs.ReportPlaces.{IsPlaceAmong, IsPlaceFor};
 ghost use Rattle.fleet_tables.specs.Rooms.{room_for, IsShownOf, IsSpare, IsNew, IsNewFor};
 ghost use Rattle.fleet_tables.specs.Rows.{IsRowAt};
 
@@ -21,7 +25,7 @@ use crate::node::Node;
 use crate::room::{Derived, NewNode, Room, Spare, room_for_reports};
 use fleet_rows::json_tree::Text;
 use fleet_rows::stamp_time::Moment;
-use fleet_rows::{Change, Entity, Kind, Rank, Row, Ttls};
+use fleet_rows::{Change, Entity, Kind, Rank, ReportChange, Row, Ttls};
 use std::alloc::{AllocError, Global};
 use std::marker::Model;
 use std::snapshot::Snapshot;
@@ -91,11 +95,12 @@ impl State {
             Ok(spare) => {
                 let Spare {
                     reports,
+                    place,
                     new,
                     first,
                 } = spare;
                 Ok(Room {
-                    shown: shown.with_reports(reports),
+                    shown: shown.with_reports(reports, place),
                     new,
                     first,
                     tables: Snapshot::of(self),
@@ -119,13 +124,46 @@ impl State {
         check_total(&self.total, change)?;
         let found = self.reports_of(change.certname());
         let reports = room_for_reports(alloc, shown, found.unwrap_or(0))?;
+        let place = self.place_for(alloc, change, shown)?;
         let new = new_for(alloc, found, change.certname(), self.total.nodes)?;
         let first = groups::first_group(alloc, self.groups.as_slice())?;
         Ok(Spare {
             reports,
+            place,
             new,
             first,
         })
+    }
+
+    // The place of a report among those of its node. Other changes have none.
+    fn place_for(
+        &self,
+        alloc: Global,
+        change: &Change,
+        shown: &Derived,
+    ) -> Result<Result<usize, usize>, AllocError>
+        requires { IsShownOf shown.now change.now }
+        ensures { IfOk result (IsPlaceFor change.now (reports_of (find_node (change_certname change.now) self.now.nodes))) }
+    {
+        match change {
+            Change::Report(report) => self.report_place(alloc, report),
+            Change::Facts(_) | Change::Catalog(_) => Ok(Err(0)),
+            Change::Deactivate(_) | Change::Expiration(_) => Ok(Err(0)),
+        }
+    }
+
+    fn report_place(
+        &self,
+        alloc: Global,
+        report: &ReportChange,
+    ) -> Result<Result<usize, usize>, AllocError>
+        requires { HasPrintableMoments report.now }
+        ensures { IfOk result (IsPlaceAmong report.now (reports_of (find_node report.now.certname self.now.nodes))) }
+    {
+        match groups::group_with(self.groups.as_slice(), &report.certname) {
+            Some(group) => group.place_of_report(alloc, report),
+            None => Ok(Err(0)),
+        }
     }
 
     // The number of kept reports of the node with this certname, or None if there is no such node.

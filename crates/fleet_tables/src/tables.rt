@@ -55,8 +55,8 @@ impl Tables {
         }
     }
 
-    /// Takes all memory that applying the change will need. It computes only the canonical text of a report; `prepare` computes
-    /// the rest, or `row` for its row. The room fits only this change and the tables as they are: a change or a sweep in between
+    /// Takes all memory that applying the change will need. It packs a report, and computes nothing else; `prepare` computes the
+    /// rest, or `row` for its row. The room fits only this change and the tables as they are: a change or a sweep in between
     /// makes it useless. More than 2^62 rows of an entity, which no memory holds, count as missing memory.
     pub fn reserve(&mut self, change: &Change) -> Result<Room, AllocError>
         requires { IsChange change.now }
@@ -67,8 +67,8 @@ impl Tables {
         self.room_for(change, shown).map_err(no_memory)
     }
 
-    /// Makes room for a prepared change, and returns the change with the room. Nothing is computed here: the prepared values go
-    /// into the tables with the room. On an error the prepared change is given back.
+    /// Makes room for a prepared change, and returns the change with the room. Only the place of a report is sought here: the
+    /// prepared values go into the tables with the room. On an error the prepared change is given back.
     pub fn reserve_prepared(&mut self, prepared: Prepared) -> Result<(Change, Room), Prepared>
         ensures change { IfOk result (λ made. made.0 ≡ prepared) }
         ensures room { IfOk result (λ made. made.1 ≡ room_for self.new prepared) }

@@ -106,7 +106,7 @@ impl Node {
         ensures seen { node_seen self.new ≡ with_retained ttls.now retention.now (node_seen self.old) }
         ensures kept { IsNode self.new }
     {
-        self.reports.retain(|held| is_retained(ttls, retention, held.report().change.stamp));
+        self.reports.retain(|held| is_retained(ttls, retention, held.report().change.stamp()));
     }
 }
 

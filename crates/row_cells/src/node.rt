@@ -1,22 +1,29 @@
 //! Makes the row of a node.
-ghost use Rattle.std.specs.Prelude.{◌≡◌, [], ◌∷◌, IfOk, IfSome, map};
-ghost use Rattle.table_spec.specs.text_spec.Json.{string};
+ghost use Rattle.std.specs.Prelude.{◌≡◌, [], ◌∷◌, IfOk, map};
 ghost use Rattle.table_spec.specs.fleet_rows.declared.row.Entity.TheVariants as entity;
-ghost use Rattle.table_spec.specs.history_spec.Report.{text_or_null, bool_or_null, report_object};
-ghost use Rattle.table_spec.specs.Cells.{hash};
-ghost use Rattle.table_spec.specs.Rows.{environment_cell, timestamp_cell, report_cell, node_cells};
-ghost use Rattle.row_cells.specs.Nodes.{facts_of, catalog_of, report_of};
+ghost use Rattle.table_spec.specs.Rows.{environment_cell, timestamp_cell};
+ghost use Rattle.row_cells.specs.Nodes.{facts_of, catalog_of, head_cells, cells_with_head};
 ghost use Rattle.row_cells.specs.Rows.{IsRow};
 ghost use Rattle.row_cells.specs.Shown.{shown_cell};
 
 use crate::shown::{Shown, append};
 use std::alloc::{AllocError, Global};
-use table_spec::fleet_rows::{CatalogChange, Cells, Entity, FactsChange, ReportChange, Row};
+use table_spec::fleet_rows::{CatalogChange, Cells, Entity, FactsChange, Row};
 use table_spec::json_tree::Text;
 use table_spec::stamp_time::Moment;
 
-/// The row of a node: when it was deactivated and expired, its newest facts and catalog, and its latest report with the report's
-/// hash.
+/// What the row of a node shows of its latest report. So a report whose lists are packed need not be unpacked for the row.
+#[derive(Clone, Copy, Drop)]
+pub struct ReportHead<'a> {
+    /// The hash of the report.
+    pub digest: &'a Text,
+    pub noop: Option<bool>,
+    pub status: &'a Option<Text>,
+    pub environment: &'a Option<Text>,
+    pub stamp: Moment,
+}
+
+/// The row of a node: when it was deactivated and expired, its newest facts and catalog, and the head of its latest report.
 pub fn node_row(
     alloc: Global,
     certname: &Text,
@@ -24,11 +31,10 @@ pub fn node_row(
     expired: Option<Moment>,
     facts: Option<&FactsChange>,
     catalog: Option<&CatalogChange>,
-    report: Option<(&ReportChange, &Text)>,
+    report: &Option<ReportHead>,
 ) -> Result<Row, AllocError>
-    requires { IfSome report (λ p. p.1.now ≡ hash (report_object p.0.now)) }
     ensures { IfOk result (λ row. IsRow row entity.Nodes
-        (node_cells certname.now deactivated expired (facts_of facts.entry) (catalog_of catalog.entry) (report_of report.entry))) }
+        (cells_with_head certname.now deactivated expired (facts_of facts.entry) (catalog_of catalog.entry) report.now)) }
 {
     let mut cells = Cells::new(alloc);
     append(alloc, &mut cells, &catalog_columns(catalog))?;
@@ -39,7 +45,6 @@ pub fn node_row(
     ];
     append(alloc, &mut cells, &state)?;
     append(alloc, &mut cells, &facts_columns(facts))?;
-    append(alloc, &mut cells, &digest_column(report))?;
     append(alloc, &mut cells, &report_columns(report))?;
     Ok(Row {
         entity: Entity::Nodes,
@@ -75,30 +80,24 @@ fn facts_columns<'a>(facts: Option<&'a FactsChange>) -> [Shown<'a>; 2]
     }
 }
 
-// The hash of a report.
-fn digest_column<'a, 'b>(report: Option<(&'a ReportChange, &'b Text)>) -> [Shown<'b>; 1]
-    requires { IfSome report (λ p. p.1.now ≡ hash (report_object p.0.now)) }
-    ensures { map shown_cell result ≡ report_cell (λ r. string (hash (report_object r))) (report_of report.entry) ∷ [] }
+// The hash, the noop flag, the status, the environment and the timestamp of a report.
+fn report_columns<'a>(report: &Option<ReportHead<'a>>) -> [Shown<'a>; 5]
+    ensures { map shown_cell result ≡ head_cells report.now }
 {
     match report {
-        Some((_, digest)) => [Shown::Text(digest)],
-        None => [Shown::Null],
-    }
-}
-
-// The noop flag, the status, the environment and the timestamp of a report.
-fn report_columns<'a, 'b>(report: Option<(&'a ReportChange, &'b Text)>) -> [Shown<'a>; 4]
-    ensures { let x = report_of report.entry in
-        map shown_cell result ≡ report_cell (λ r. bool_or_null r.noop) x ∷ report_cell (λ r. text_or_null r.status) x
-        ∷ environment_cell x ∷ timestamp_cell x ∷ [] }
-{
-    match report {
-        Some((change, _)) => [
-            Shown::OptionalFlag(change.noop),
-            Shown::OptionalText(&change.status),
-            Shown::OptionalText(&change.environment),
-            Shown::Stamp(change.stamp),
+        Some(head) => [
+            Shown::Text(head.digest),
+            Shown::OptionalFlag(head.noop),
+            Shown::OptionalText(head.status),
+            Shown::OptionalText(head.environment),
+            Shown::Stamp(head.stamp),
         ],
-        None => [Shown::Null, Shown::Null, Shown::Null, Shown::Null],
+        None => [
+            Shown::Null,
+            Shown::Null,
+            Shown::Null,
+            Shown::Null,
+            Shown::Null,
+        ],
     }
 }

@@ -12,6 +12,8 @@ mod lifetimes;
 #[cfg(test)]
 mod lists;
 #[cfg(test)]
+mod packed;
+#[cfg(test)]
 mod plain;
 #[cfg(test)]
 mod plain_rows;

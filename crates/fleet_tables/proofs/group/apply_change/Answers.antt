@@ -27,10 +27,10 @@ pub apply-changed-requires-clause-shown : goal.apply-changed-requires-clause-sho
 apply-changed-requires-clause-shown c =
     let node = c.deref_mut.result.now in
     let there = seen_there c.node_at-at.new.nodes.items c.node_at-at.result c.index_mut.result.now node c.node_at-at.ensures.place c.index_mut.ensures.value c.deref_mut.ensures.value in
-    let reports : length (map report_seen node.reports.items) ≡ reports_of (find_node c.certname.result.now (seen_in c.args.nodes.now.items)) = (c.node_at-at.ensures.node (node_seen node) there).0 in
-    let number : reports_of (find_node (change_certname c.args.change) (seen_in c.args.nodes.now.items)) ≡ length node.reports.items =
-    ap (λ name. reports_of (find_node name (seen_in c.args.nodes.now.items))) (sym c.certname.ensures) ∙ sym reports ∙ length-map node.reports.items report_seen in
-    subst (IsShownFor c.args.shown c.args.change) number c.requires.room.0
+    let reports : map report_seen node.reports.items ≡ reports_of (find_node c.certname.result.now (seen_in c.args.nodes.now.items)) = (c.node_at-at.ensures.node (node_seen node) there).0 in
+    let same : reports_of (find_node (change_certname c.args.change) (seen_in c.args.nodes.now.items)) ≡ map report_seen node.reports.items =
+    ap (λ name. reports_of (find_node name (seen_in c.args.nodes.now.items))) (sym c.certname.ensures) ∙ sym reports in
+    subst (IsShownFor c.args.shown c.args.change) same c.requires.room.0
 
 pub returns-clause-seen : goal.returns-clause-seen
 returns-clause-seen c =

@@ -1,7 +1,6 @@
 use Rattle.std.proofs.Common.{subst}
 use Rattle.checkpoint_spec.specs.history_spec.Lawful.{IsChange}
-use Rattle.fleet_tables.proofs.Printable.{report_moments}
 use Rattle.fleet_tables.proofs.room.needed_by.Goals as goal
 
 pub report_needed-requires : goal.report_needed-requires
-report_needed-requires c = report_moments c.in-Report.change (subst IsChange c.in-Report.is c.requires)
+report_needed-requires c = subst IsChange c.in-Report.is c.requires

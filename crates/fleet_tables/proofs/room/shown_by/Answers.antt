@@ -1,6 +1,6 @@
 use Rattle.std.proofs.Common.{subst}
 use Rattle.checkpoint_spec.specs.history_spec.Lawful.{IsChange}
-use Rattle.fleet_tables.proofs.Printable.{facts_moment, catalog_moment, report_moments}
+use Rattle.fleet_tables.proofs.Printable.{facts_moment, catalog_moment}
 use Rattle.fleet_tables.proofs.room.shown_by.Goals as goal
 
 pub of-requires : goal.of-requires
@@ -10,4 +10,4 @@ pub of-requires-in-Catalog : goal.of-requires-in-Catalog
 of-requires-in-Catalog c = catalog_moment c.in-Catalog.change (subst IsChange c.in-Catalog.is c.requires)
 
 pub report_shown-requires : goal.report_shown-requires
-report_shown-requires c = report_moments c.in-Report.change (subst IsChange c.in-Report.is c.requires)
+report_shown-requires c = subst IsChange c.in-Report.is c.requires
