@@ -22,6 +22,13 @@ pub mod Halves
 pub mod GroupRows
 pub mod GroupRooms
 pub mod MarkLaws
+pub mod OwnLaws
+pub mod PlaceLaws
+pub mod RunLaws
+pub mod SoughtRows
+pub mod OrderedRuns
+pub mod SpanNodes
+pub mod SeekLaws
 pub mod ListedLaws
 pub mod SnapshotLaws
 pub mod LawfulLists

@@ -16,8 +16,10 @@ use Rattle.checkpoint_spec.proofs.of_table_machine.Risen.{sorted-put}
 use Rattle.fleet_tables.specs.Listed.{with_activity}
 use Rattle.fleet_tables.specs.Counted.{limit, IsWithin}
 use Rattle.fleet_tables.specs.Groups.{joined, IsFilled, StandInOrder, AreBelow, AreAbove, AreCountsOf, AreFew, AreKept}
+use Rattle.fleet_tables.specs.Owned.{IsOwn}
 use Rattle.fleet_tables.specs.declared.counts.Counts.{Counts}
 use Rattle.fleet_tables.proofs.JoinedNodes.{Groups, put_parted}
+use Rattle.fleet_tables.proofs.OwnLaws.{all_marked_own}
 use Rattle.fleet_tables.proofs.RowBounds.{put_bound, few_part, counted_few}
 use Rattle.fleet_tables.proofs.RowCounts.{nodes_count}
 
@@ -76,6 +78,7 @@ module _ (expiry retention : Option ℤ) (groups : Groups) (total : Counts) (kep
     subst StandInOrder (sym is) (marked_in_order certname active (joined groups) kept.3),
     rows,
     within,
+    subst (AllByRecursion IsOwn) (sym is) (all_marked_own certname active (joined groups) kept.6),
   )
 
   -- its rows can be counted, where one node more can be

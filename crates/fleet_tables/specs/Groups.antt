@@ -13,6 +13,7 @@ use Rattle.checkpoint_spec.specs.table_machine.Rows.{node_rows}
 use Rattle.checkpoint_spec.specs.table_machine.Table.{Node, node_cmp}
 use Rattle.fleet_tables.specs.declared.counts.Counts.{Counts}
 use Rattle.fleet_tables.specs.Counted.{count_of, limit, IsWithin}
+use Rattle.fleet_tables.specs.Owned.{IsOwn}
 
 -- the nodes of all groups in order
 abbrev pub joined : List (List Node) → List Node
@@ -77,3 +78,4 @@ AreKept expiry retention groups total =
     × StandInOrder (joined groups)
     × AreCountsOf total (joined groups)
     × IsWithin total
+    × AllByRecursion IsOwn (joined groups)

@@ -12,9 +12,11 @@
 //! the change that it was made for, and `Prepared` as its change. In `specs/`:
 //!
 //! - `Stands.antt`: the history that tables stand for.
-//! - `Asked.antt`: look-ups by certname. `Rows.antt`: rows by index.
+//! - `Asked.antt`: look-ups by certname. `Rows.antt`: rows by index. `Wanted.antt`: rows by the names that they show, and
+//!   `Spans.antt` their places. `Runs.antt` has the places within one node.
 //! - `Listed.antt`: the lists that `from_list` takes.
 //! - `Kept.antt`: what is stored besides the value (hashes, orders and numbers of rows). `Groups.antt`: how nodes are grouped.
+//!   `Owned.antt`: the commands of a node name it.
 //!
 //! Memory is taken only by `Prepared::of`, the two calls that make room, the two that prepare, `row`, `snapshot`, `from_list` and
 //! `mark`. The stored data is in `State`, which holds no allocator except those of its lists; only these calls hand it one.
@@ -35,6 +37,10 @@
 //! The room for a new node has a list for twice the number of all nodes, at 8 bytes each, since no contract says how full the
 //! node's group is. Each report has its own allocation, so inserting a report moves 8 bytes for each later one.
 //!
+//! Look-ups read no row and take no memory but for the list of `seek`. A certname is found by two binary searches, and its rows
+//! are neighbours. Within a node, the orders of its facts and resources serve as the index. Where an order isn't computed, all
+//! names of the node are compared.
+//!
 //! Clauses and costs of the calls:
 //! - `reserve`, `reserve_prepared` and `into_prepared` leave the tables (`same`). Without memory `reserve_prepared` hands the
 //!   change back. `into_prepared` takes the change out of an unused room.
@@ -42,6 +48,8 @@
 //!   The three sweeps make one pass over nodes and reports. That these four take no memory is read off the code.
 //! - `row` and `count`: exact, for the table and for each history (`row`, `count`, `stands`). `newest`, `inactive`: one binary
 //!   search.
+//! - `of_node`, `of_fact`, `of_resource`, `fact_place`, `seek`: the places of exactly the rows that a filter of all rows finds.
+//!   Those without a certname look into each node.
 //! - `snapshot` copies each kept change. `from_list` takes each list of lawful changes (`value`, `stands`, `further`).
 //! - `set_sweeps` and `mark` are the first steps of `from_list`; afterwards tables may stand for no history. Without memory
 //!   `mark` leaves the tables. At 2^62 nodes it refuses known nodes too.
@@ -54,6 +62,7 @@ mod groups;
 mod kept;
 mod listed;
 mod lists;
+mod lookups;
 mod marks;
 mod node;
 mod packed;
@@ -62,16 +71,22 @@ mod preparing;
 mod reports;
 mod room;
 mod rows;
+mod runs;
+mod seek;
 mod shown;
 mod snapshot;
+mod spans;
 mod state;
 mod steps;
 mod tables;
 mod times;
+mod wanted;
 
+pub use lookups::Places;
 pub use room::{Prepared, Room};
 pub use steps::Steps;
 pub use tables::Tables;
+pub use wanted::{Span, Wanted, WantedResource};
 
 // Re-exports for the crates above.
 pub use fleet_rows;

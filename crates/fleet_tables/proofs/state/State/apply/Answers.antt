@@ -1,4 +1,5 @@
 use Rattle.std.proofs.Common.{◌∙◌, sym, ap, subst}
+use Rattle.std.specs.List.{AllByRecursion}
 use Rattle.checkpoint_spec.specs.fleet_rows.declared.applied.Applied.{Applied}
 use Rattle.checkpoint_spec.specs.history_spec.Trace.{applied_as}
 use Rattle.checkpoint_spec.specs.table_machine.Steps.{apply, with_node, with_applied}
@@ -6,6 +7,8 @@ use Rattle.checkpoint_spec.specs.table_machine.Table.{Table}
 use Rattle.checkpoint_spec.specs.fleet_rows.Change.{change_certname}
 use Rattle.fleet_tables.specs.Groups.{joined, AreFew, StandInOrder}
 use Rattle.fleet_tables.specs.Rooms.{Fits, RoomFor}
+use Rattle.fleet_tables.specs.Owned.{IsOwn}
+use Rattle.fleet_tables.proofs.OwnLaws.{all_applied_own}
 use Rattle.fleet_tables.proofs.NodeOrder.{applied_in_order, has_stamp_moment}
 use Rattle.fleet_tables.proofs.RowBounds.{applied_few}
 use Rattle.fleet_tables.proofs.state.State.apply.Goals as goal
@@ -30,4 +33,5 @@ invariant_of-self c =
       subst StandInOrder (sym (c.apply_change-self-inside.ensures.nodes ∙ ap step c.begin.ensures.same)) (applied_in_order c.self.inside.ttls c.self.inside.retention x (joined c.self.inside.groups.items) c.self.invariant.3),
       c.apply_change-self-inside.ensures.rows,
       c.apply_change-self-inside.ensures.within,
+      subst (AllByRecursion IsOwn) (sym (c.apply_change-self-inside.ensures.nodes ∙ ap step c.begin.ensures.same)) (all_applied_own c.self.inside.ttls c.self.inside.retention x (joined c.self.inside.groups.items) c.self.invariant.6),
     )

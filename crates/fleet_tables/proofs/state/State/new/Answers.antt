@@ -7,4 +7,4 @@ use Rattle.fleet_tables.proofs.state.State.new.Goals as goal
 pub invariant_of-result : goal.invariant_of-result
 invariant_of-result c =
     rw (c.new.ensures.items, c.none.ensures)
-    (tt, tt, tt, sorted-nil node_cmp, (λ entity ttls expiry. count_none ttls expiry entity), (lit≤ tt, lit≤ tt, lit≤ tt, lit≤ tt, lit≤ tt, lit≤ tt, lit≤ tt))
+    (tt, tt, tt, sorted-nil node_cmp, (λ entity ttls expiry. count_none ttls expiry entity), (lit≤ tt, lit≤ tt, lit≤ tt, lit≤ tt, lit≤ tt, lit≤ tt, lit≤ tt), tt)

@@ -1,8 +1,11 @@
 use Rattle.std.proofs.Common.{not, sym, subst}
+use Rattle.std.specs.List.{AllByRecursion}
 use Rattle.checkpoint_spec.specs.table_machine.Node.{node_purged}
 use Rattle.checkpoint_spec.specs.table_machine.Table.{Node}
 use Rattle.fleet_tables.specs.Groups.{joined, AreFew, AreCountsOf, StandInOrder}
 use Rattle.fleet_tables.proofs.JoinedNodes.{Groups}
+use Rattle.fleet_tables.specs.Owned.{IsOwn}
+use Rattle.fleet_tables.proofs.OwnLaws.{all_left_own}
 use Rattle.fleet_tables.proofs.NodeOrder.{purged_in_order}
 use Rattle.fleet_tables.proofs.RowBounds.{counted_few, purged_few}
 use Rattle.fleet_tables.proofs.state.State.purge.Goals as goal
@@ -23,4 +26,5 @@ invariant_of-self c =
       subst StandInOrder (sym c.purge.ensures.nodes) (purged_in_order inside.ttls c.args.m inside.expiry (joined inside.groups.items) c.self.invariant.3),
       subst (λ (groups : Groups). AreCountsOf c.rows_in-self-inside.result (joined groups)) c.as_slice.ensures.value c.rows_in-self-inside.ensures.rows,
       c.rows_in-self-inside.ensures.within,
+      subst (AllByRecursion IsOwn) (sym c.purge.ensures.nodes) (all_left_own inside.ttls c.args.m inside.expiry (joined inside.groups.items) c.self.invariant.6),
     )

@@ -1,8 +1,11 @@
 use Rattle.std.proofs.Common.{IfSome, sym, subst}
+use Rattle.std.specs.List.{AllByRecursion}
 use Rattle.checkpoint_spec.specs.stamp_time.Range.{IsStampMoment}
 use Rattle.fleet_tables.specs.Groups.{joined, AreFew, AreCountsOf, StandInOrder}
 use Rattle.fleet_tables.proofs.JoinedNodes.{Groups}
 use Rattle.checkpoint_spec.proofs.of_history_laws.Moments.{later_is_stamp}
+use Rattle.fleet_tables.specs.Owned.{IsOwn}
+use Rattle.fleet_tables.proofs.OwnLaws.{all_retained_own}
 use Rattle.fleet_tables.proofs.NodeOrder.{retained_in_order}
 use Rattle.fleet_tables.proofs.RowBounds.{counted_few, retained_few}
 use Rattle.fleet_tables.proofs.state.State.retain.Goals as goal
@@ -23,4 +26,5 @@ invariant_of-self c =
       subst StandInOrder (sym c.retain.ensures.nodes) (retained_in_order inside.ttls c.later-self-inside.result (joined inside.groups.items) c.self.invariant.3),
       subst (λ (groups : Groups). AreCountsOf c.rows_in-self-inside.result (joined groups)) c.as_slice.ensures.value c.rows_in-self-inside.ensures.rows,
       c.rows_in-self-inside.ensures.within,
+      subst (AllByRecursion IsOwn) (sym c.retain.ensures.nodes) (all_retained_own inside.ttls c.later-self-inside.result (joined inside.groups.items) c.self.invariant.6),
     )

@@ -1,0 +1,11 @@
+use Rattle.std.proofs.Common.{◌≡◌, ◌+◌, ℤ, drop, Option}
+use Rattle.checkpoint_spec.specs.fleet_rows.declared.settings.Ttls.{Ttls}
+use Rattle.fleet_tables.specs.Groups.{rows_of}
+use Rattle.fleet_tables.specs.Places.{seen_in}
+use Rattle.fleet_tables.specs.Runs.{number}
+use Rattle.fleet_tables.specs.Wanted.{has_own, texts_of}
+use Rattle.fleet_tables.proofs.seek.count_nodes.Given as goal
+
+abbrev pub invariant-walking : goal.invariant-walking
+invariant-walking l = (ttls : Ttls) (expiry : Option ℤ) → l.count + number (has_own l.entity (texts_of l.sought)) (rows_of l.entity ttls expiry (seen_in (drop l.node-index l.nodes)))
+    ≡ number (has_own l.entity (texts_of l.sought)) (rows_of l.entity ttls expiry (seen_in l.nodes))

@@ -1,0 +1,14 @@
+use Rattle.std.proofs.Common.{◌≡◌, ◌++◌, ◌+◌, ℤ, length, drop, Option}
+use Rattle.checkpoint_spec.specs.fleet_rows.declared.settings.Ttls.{Ttls}
+use Rattle.fleet_tables.specs.Groups.{rows_of}
+use Rattle.fleet_tables.specs.Places.{seen_in}
+use Rattle.fleet_tables.specs.Spans.{places_from}
+use Rattle.fleet_tables.specs.Wanted.{has_own, texts_of}
+use Rattle.fleet_tables.proofs.seek.push_nodes.Given as goal
+
+abbrev pub invariant-walking : goal.invariant-walking
+invariant-walking l = record {
+  places : (ttls : Ttls) (expiry : Option ℤ) → l.places.items ++ places_from l.before (has_own l.entity (texts_of l.sought)) (rows_of l.entity ttls expiry (seen_in (drop l.node-index l.nodes)))
+      ≡ l.initial.places.items ++ places_from l.initial.before (has_own l.entity (texts_of l.sought)) (rows_of l.entity ttls expiry (seen_in l.nodes));
+  few : (ttls : Ttls) (expiry : Option ℤ) → l.before + length (rows_of l.entity ttls expiry (seen_in (drop l.node-index l.nodes))) ≡ l.initial.before + length (rows_of l.entity ttls expiry (seen_in l.nodes));
+}
