@@ -3,6 +3,7 @@ ghost use Rattle.std.specs.Prelude.{◌≡◌, ◌<◌, IfSome};
 ghost use Rattle.command_decode.specs.fleet_rows.Lifetime.{IsReportCount};
 ghost use Rattle.command_decode.specs.history_spec.Lawful.{IsChange};
 
+use crate::lookups::agree;
 use command_decode::decode;
 use command_decode::fleet_rows::{
     Cell, Change, Command, Entity, Kind, Kinds, Row, StoreList, Ttls,
@@ -48,7 +49,7 @@ fn number_of(word: &str) -> u64 {
     word.parse::<u64>().unwrap_or(0)
 }
 
-fn entity_of(word: &str) -> Option<Entity> {
+pub(crate) fn entity_of(word: &str) -> Option<Entity> {
     for (name, entity) in ENTITIES {
         if name == word {
             return Some(entity);
@@ -375,6 +376,11 @@ impl Fleet {
                 None => Ok(false),
             },
             "list" => self.list(),
+            "found" => agree(self.alloc, &self.tables, text),
+            "prepared" => {
+                self.tables.prepare_all()?;
+                Ok(true)
+            }
             "received" => Ok(self.command(Some(Kind::Report), read_stamp(first), rest)),
             "end" => Ok(true),
             _ => Ok(self.command(kind_of(word), None, text)),
@@ -386,6 +392,7 @@ impl Fleet {
     /// `fleet` begins with tables of no node, and `reports` with such that keep so many reports of a node. The name of a kind applies a
     /// command by its receipt and its payload, and `received` a report by the moment of its receipt before these. `expire`, `purge` and
     /// `retain` sweep at a stamp, and `sweep` does all three. `inactive` and `active` tell of a node, and `count` of an entity's rows.
+    /// `prepared` prepares all rows, and `found` compares the look-ups for some names with a filter of all rows, and with their number.
     /// What `rows`, `row`, `newest` and `list` show stands behind them, each line behind a bar.
     pub(crate) fn play(&mut self, rt: &impl Abort, lines: &str) -> Result<(), AllocError> {
         for (place, line) in lines.split('\n').enumerate() {
