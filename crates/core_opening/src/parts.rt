@@ -62,7 +62,7 @@ pub(crate) fn open_waiting<D: Disk + Drop>(
         Err((PairFault::DiskFault, a, b)) => return Err((OpenCoreFault::QueueFault, a, b)),
         Err((PairFault::Memory, a, b)) => return Err((OpenCoreFault::Memory, a, b)),
     };
-    match read_frames(alloc, frames.as_slice()) {
+    match read_frames(alloc, frames.into_vec()) {
         Ok(reading) => Ok((queue, reading)),
         Err(UnreadQueue::Damaged(at)) => {
             let file = queue_file(queue.side());

@@ -1,5 +1,5 @@
 //! Reads the queue's log, frame by frame.
-ghost use Rattle.std.specs.Prelude.{◌≡◌, ℕ, List, ◌∷◌, ◌++◌, [], length, reverse, MatchResult, IsTrue, true, false, IfOk};
+ghost use Rattle.std.specs.Prelude.{◌≡◌, ◌==◌, ℕ, List, ◌∷◌, ◌++◌, [], length, reverse, MatchResult, IsTrue, true, false, IfOk};
 ghost use Rattle.core_state.specs.record_spec.declared.queue.QueueRecord.{QueueRecord as Rec};
 ghost use Rattle.core_state.specs.core_spec.Damage.{MayQueue};
 ghost use Rattle.core_state.specs.queue_records.Reading.{queue_at};
@@ -80,10 +80,18 @@ fn finish(alloc: Global, so_far: SoFar) -> Result<Reading, AllocError>
     })
 }
 
-/// Reads the frames of a file as a queue's log.
-pub(crate) fn read_frames(alloc: Global, frames: &[Bytes]) -> Result<Reading, UnreadQueue>
-    ensures told { MatchReading result frames.now }
+// Whether there is no frame.
+fn are_none(frames: &Vec<Bytes>) -> bool
+    ensures { result ≡ (length frames.now.items == 0) }
 {
+    frames.is_empty()
+}
+
+/// Reads the frames of a file as a queue's log. Each frame is let go once it is read, so no two copies of a log are in memory.
+pub(crate) fn read_frames(alloc: Global, frames: Vec<Bytes>) -> Result<Reading, UnreadQueue>
+    ensures told { MatchReading result frames.items }
+{
+    let none = are_none(&frames);
     let mut so_far = SoFar {
         records: QueueRecords::new(alloc),
         pending: Pending::new(alloc),
@@ -93,14 +101,16 @@ pub(crate) fn read_frames(alloc: Global, frames: &[Bytes]) -> Result<Reading, Un
     };
     let mut at = 16u64;
     'reading: for frame in frames {
-        let bytes = frame.as_slice();
-        match take_frame(alloc, &mut so_far, bytes) {
+        let size = frame.as_slice().len() as u64;
+        let taken = take_frame(alloc, &mut so_far, frame.as_slice());
+        drop(frame);
+        match taken {
             Err(_) => return Err(UnreadQueue::Memory),
             Ok(false) => return Err(UnreadQueue::Damaged(at)),
-            Ok(true) => at = at.saturating_add(5 + bytes.len() as u64),
+            Ok(true) => at = at.saturating_add(5 + size),
         }
     }
-    if frames.is_empty() {
+    if none {
         return Err(UnreadQueue::Damaged(at));
     }
     match finish(alloc, so_far) {

@@ -1,12 +1,11 @@
 -- Frames that are read one after the other.
 use Rattle.std.proofs.Common.{◌≡◌, ℕ, zero, suc, ◌+◌, ◌-◌, ◌^◌, ◌<◌, ◌≤◌, min, List, [], ◌∷◌, ◌++◌, length, map, take, drop, get_or, reverse, Option, Some, None, refl, sym, ap, subst, ◌∙◌, arith, length-append}
-use Rattle.std.specs.List.{AllByRecursion}
 use Rattle.std.proofs.lemmas.List.{map-append, take-map, drop-map, map_more, drop_more, take_more, reverse-append}
 use Rattle.std.proofs.Math.Seq.{take-length, drop-length}
 use Rattle.std.specs.Int.{w32, to_le_bytes}
 use Rattle.port_memory.proofs.of_plain_laws.Members.{all_more}
 use Rattle.log_pair.specs.log_spec.ImageOf.{block_text, frame_texts}
-use Rattle.core_spec.specs.Damage.{MayKeep, AreKept, IsStoreLog, EachIs, EndsThere, IsDamagedFrame}
+use Rattle.core_spec.specs.Damage.{MayKeep, AreKept, IsStoreLog, EachIs, EndsThere}
 use Rattle.core_spec.specs.record_spec.declared.store.StoreRecord.{StoreRecord}
 use Rattle.core_spec.specs.record_spec.Store.{store_text, IsStoreRecord}
 use Rattle.store_records.specs.Reading.{store_at}
@@ -61,6 +60,20 @@ pub record HasRead (frames : List (List ℕ)) (i : ℕ) (records : List StoreRec
   pub count : length records ≡ i
   pub place : at ≡ min (gate_at frames i) (2 ^ 64 - 1)
   pub spelt : AreRecords store_text IsStoreRecord (take i frames) records
+
+-- the first of what is left stands behind what was read
+pub stands_behind : (done : List (List ℕ)) (x : List ℕ) (rest : List (List ℕ)) → (length done < length (done ++ x ∷ rest)) × (x ≡ get_or (done ++ x ∷ rest) (length done) x)
+stands_behind [] x rest = (omega arith, refl)
+stands_behind (d ∷ ds) x rest = (omega (arith, (stands_behind ds x rest).0), (stands_behind ds x rest).1)
+
+pub placed : (all done left rest : List (List ℕ)) (x : List ℕ) → done ++ left ≡ all → left ≡ x ∷ rest → (length done < length all) × (x ≡ get_or all (length done) x)
+placed all done left rest x whole steps =
+    subst (λ (fs : List (List ℕ)). (length done < length fs) × (x ≡ get_or fs (length done) x)) (sym (ap (λ (r : List (List ℕ)). done ++ r) steps) ∙ whole) (stands_behind done x rest)
+
+-- what is left of a list of no length
+pub none_left : {A : Type 0} (xs : List A) → length xs ≡ 0 → xs ≡ []
+none_left [] is = refl
+none_left (x ∷ xs) is = absurd (omega arith)
 
 pub begun : (frames : List (List ℕ)) → HasRead frames 0 [] 16
 begun frames = record { reads = tt; stand = tt; count = refl; place = omega arith; spelt = record { lawful = tt; spelt = refl } }

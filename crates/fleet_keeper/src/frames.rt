@@ -36,16 +36,18 @@ fn may_stand(rec: &StoreRecord, before: usize) -> bool
     }
 }
 
-/// The records that the frames of a file spell.
-pub(crate) fn read_frames(alloc: Global, frames: &[Bytes]) -> Result<StoreRecords, Unread>
-    ensures told { MatchRead result frames.now }
-    ensures spelt { IfOk result (λ records. AreRecords store_text IsStoreRecord frames.now records) }
+/// The records that the frames of a file spell. Each frame is let go once it is read, so no two copies of a log are in memory.
+pub(crate) fn read_frames(alloc: Global, frames: Vec<Bytes>) -> Result<StoreRecords, Unread>
+    ensures told { MatchRead result frames.items }
+    ensures spelt { IfOk result (λ records. AreRecords store_text IsStoreRecord frames.items records) }
 {
     let mut records = StoreRecords::new(alloc);
     let mut at = 16u64;
     'reading: for frame in frames {
-        let bytes = frame.as_slice();
-        match read_store(alloc, bytes) {
+        let size = frame.as_slice().len() as u64;
+        let read = read_store(alloc, frame.as_slice());
+        drop(frame);
+        match read {
             Err(_) => return Err(Unread::Memory),
             Ok(None) => return Err(Unread::Damaged(at)),
             Ok(Some(rec)) => {
@@ -56,7 +58,7 @@ pub(crate) fn read_frames(alloc: Global, frames: &[Bytes]) -> Result<StoreRecord
                 if !stands {
                     return Err(Unread::Damaged(at));
                 }
-                at = at.saturating_add(5 + bytes.len() as u64);
+                at = at.saturating_add(5 + size);
             }
         }
     }

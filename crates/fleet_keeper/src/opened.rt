@@ -53,7 +53,7 @@ pub fn open_keeper<D: Disk + Drop>(
         Ok(opened) => opened,
         Err((fault, a, b)) => return Err((fault, a, b)),
     };
-    match read_frames(alloc, frames.as_slice()) {
+    match read_frames(alloc, frames.into_vec()) {
         Ok(records) => {
             let keeper = LogKeeper {
                 pair,

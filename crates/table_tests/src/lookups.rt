@@ -157,9 +157,11 @@ pub(crate) fn agree(alloc: Global, tables: &Tables, words: &str) -> Result<bool,
     };
     let places = filtered_by::<Brand>(Blank::new(1), alloc, tables, &asked)?;
     let found = sought(alloc, tables, &asked)?;
-    Ok(places.len() as u64 == count.parse::<u64>().unwrap_or(0)
-        && found.as_slice() == places.as_slice()
-        && is_found(tables, &asked, places.as_slice()))
+    Ok(
+        places.len() as u64 == count.parse::<u64>().unwrap_or(0)
+            && found.as_slice() == places.as_slice()
+            && is_found(tables, &asked, places.as_slice()),
+    )
 }
 
 // Three nodes, of which the second has no fact, and the third no catalog.

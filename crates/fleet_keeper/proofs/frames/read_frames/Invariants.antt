@@ -1,5 +1,10 @@
+use Rattle.std.proofs.Common.{◌≡◌, ◌++◌, length}
+use Rattle.std.specs.Vec.Iter.{into_iter_items, into_iter_len}
 use Rattle.fleet_keeper.proofs.Readings.{HasRead}
 use Rattle.fleet_keeper.proofs.frames.read_frames.Given as goal
 
+-- the frames that were read, and those that are left
 abbrev pub invariant-reading : goal.invariant-reading
-invariant-reading l = HasRead l.frames l.frame-index l.records l.at
+invariant-reading l = (l.yielded ++ into_iter_items l.frame-iterator ≡ into_iter_items l.initial.frame-iterator)
+    × HasRead (into_iter_items l.initial.frame-iterator) (length l.yielded) l.records l.at
+    × (into_iter_len l.frame-iterator ≡ length (into_iter_items l.frame-iterator))
