@@ -46,7 +46,7 @@ use Rattle.core_state.specs.core_machine.Claims.{first_candidate}
 use Rattle.core_claims.specs.declared.answers.Claimed.{Claimed}
 use Rattle.core_claims.specs.declared.answers.Claimed.TheVariants as claimed
 use Rattle.core_claims.specs.declared.job.Job.{Job}
-use Rattle.core_claims.specs.Claims.{Superseded, IsSuperseding, ClaimGives, HasSubmittedJob, IsToSupersede, IsOverfull, claim_of, ClaimAdds}
+use Rattle.core_claims.specs.Claims.{Superseded, IsSuperseding, ClaimGives, LeavesPending, HasSubmittedJob, IsToSupersede, IsOverfull, claim_of, ClaimAdds}
 use Rattle.core_claims.specs.Runs as runs
 use Rattle.core_claims.specs.Runs.{was_down, ran}
 use Rattle.core_claims.specs.Turns.{IsOlder, IsNext, HasBegun, WasRefused, TurnDoes}
@@ -58,6 +58,11 @@ use Rattle.core_state.specs.log_spec.Limits.{most_log}
 pub turn_shortens : {D K : Type 0} (p : Ports D K) (old new : CoreState D K) (q n : ℕ) → IsOlder q n old → Supersedes p q n old new → length new.pending < length old.pending
 turn_shortens p old new q n older did =
     subst (λ (es : List Entry). length es < length old.pending) (sym did.pending) (shorter q older.entry old.pending older.receipt (first_among old.pending old.pending older.entry older.first))
+
+-- a list that has a candidate is not empty
+some_first : (es : List Entry) (e : Entry) → first_candidate es es ≡ Some e → es ≢ []
+some_first [] e first none = absurd cc
+some_first (x ∷ es) e first none = absurd cc
 
 module _ {D K : Type 0} (p : Ports D K) (old new : CoreState D K) where
   abbrev pub Does : Claimed → Type 0
@@ -125,6 +130,15 @@ module _ {D K : Type 0} (p : Ports D K) (old new : CoreState D K) where
     turn_nothing claimed.Spent t e = absurd cc
     turn_nothing claimed.Down t e = absurd t
     turn_nothing claimed.Memory t e = absurd cc
+
+    turn_waits : (came : Claimed) → Turn came mid → LeavesPending came → new.pending ≢ []
+    turn_waits (claimed.Job job) t leaves = absurd leaves
+    turn_waits claimed.Rest t leaves = λ none. t.1 (sym (ap (λ (x : CoreState D K). x.pending) t.2) ∙ none)
+    turn_waits claimed.Done t leaves = absurd leaves
+    turn_waits claimed.QueueFault t leaves = λ none. some_first mid.pending t.2.entry t.2.first (sym t.3.2.memory.pending ∙ none)
+    turn_waits claimed.Spent t leaves = λ none. some_first mid.pending t.2.entry t.2.first (sym t.4.memory.pending ∙ none)
+    turn_waits claimed.Down t leaves = absurd t
+    turn_waits claimed.Memory t leaves = absurd leaves
 
     -- what the turn adds
     record Added (came : Claimed) : Type 0 where
@@ -454,6 +468,10 @@ module _ {D K : Type 0} (p : Ports D K) (old new : CoreState D K) where
   pub claim_nothing : (came : Claimed) → Does came → came ≡ claimed.Done → new.pending ≡ []
   claim_nothing came (was_down e down same) is = absurd (let apart : claimed.Down ≡ claimed.Done = sym e ∙ is in cc)
   claim_nothing came (ran mid so_far t up) is = turn_nothing mid so_far came t is
+
+  pub claim_waits : (came : Claimed) → Does came → LeavesPending came → new.pending ≢ []
+  claim_waits came (was_down e down same) leaves = absurd (subst LeavesPending e leaves)
+  claim_waits came (ran mid so_far t up) leaves = turn_waits mid so_far came t leaves
 
   pub claim_store : (came : Claimed) → Does came → new.store ≡ old.store
   claim_store came (was_down e down same) = ap (λ (x : CoreState D K). x.store) same

@@ -1,5 +1,5 @@
 -- The contracts of a claim and of a release: how the answer, the core before and the core after relate.
-use Rattle.std.specs.Prelude.{◌≡◌, ◌⊎◌, ◌↔◌, ℕ, true, false, [], ◌∷◌}
+use Rattle.std.specs.Prelude.{◌≡◌, ◌≢◌, ◌⊎◌, ◌↔◌, ℕ, true, false, [], ◌∷◌}
 use Rattle.core_state.specs.fleet_rows.declared.command.Command.{Command}
 use Rattle.core_state.specs.core_spec.History.{History}
 use Rattle.core_state.specs.Changes.{OthersStay}
@@ -8,7 +8,7 @@ use Rattle.core_state.specs.Puts.{QueueCounts, QueueRoseTwice}
 use Rattle.core_state.specs.queue_log.Queued.{queue_down, queue_size}
 use Rattle.core_state.specs.Seen.{down_of, CoreIsSound, IsSubmitted, events_of}
 use Rattle.core_state.specs.StandsFor.{history_of, CoreStandsFor}
-use Rattle.core_claims.specs.Claims.{ClaimGives, HasSubmittedJob, IsOverfull, IsSuperseding, ClaimAdds}
+use Rattle.core_claims.specs.Claims.{ClaimGives, LeavesPending, HasSubmittedJob, IsOverfull, IsSuperseding, ClaimAdds}
 use Rattle.core_state.specs.core_spec.declared.event.Event.TheVariants as event
 use Rattle.core_state.specs.core_machine.Claims.{is_claimed}
 use Rattle.core_claims.specs.Releases.{ReleaseGives}
@@ -39,6 +39,7 @@ pub record CoreClaims {D K : Type 0} (d : disk.Ghosts D) (k : keeper.Ghosts K) (
   pub store : new.store ≡ old.store
   -- When each refusal comes.
   pub nothing : result ≡ came.Done → new.pending ≡ []
+  pub waits : LeavesPending result → new.pending ≢ []
   pub down : (result ≡ came.Down) ↔ (down_of k.down old ≡ true)
   pub unchanged : result ≡ came.Down → new ≡ old
   pub spent : (start : History)

@@ -63,6 +63,13 @@ ClaimGives claimed.Spent ttls old new = Superseded old new
 ClaimGives claimed.Down ttls old new = new ≡ old
 ClaimGives claimed.Memory ttls old new = Superseded old new
 
+-- the answers at which some command is still pending
+abbrev pub LeavesPending : Claimed → Type 0
+LeavesPending claimed.Rest = Unit {0}
+LeavesPending claimed.QueueFault = Unit {0}
+LeavesPending claimed.Spent = Unit {0}
+LeavesPending _ = ⊥
+
 -- the core's own data shows that the job was submitted, and it can be settled
 abbrev pub HasSubmittedJob : {D K : Type 0} → Claimed → CoreState D K → Type 0
 HasSubmittedJob (claimed.Job job) core = IsSubmitted job.receipt job.command core × IsFit job.command

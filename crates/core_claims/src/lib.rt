@@ -10,7 +10,8 @@
 //! [`claim`] and [`release`] have one clause each, `does`: the records `CoreClaims` and `CoreReleases` (`specs/Calls.antt`).
 //! The fields of `CoreClaims`:
 //! - `gives`: stale candidates are superseded, then the least one is handed out. `adds`: exactly these events and records.
-//! - Done comes only if nothing is pending (`nothing`), Down exactly if the core was down (`down`, `unchanged`).
+//! - Done comes only if nothing is pending (`nothing`), Down exactly if the core was down (`down`, `unchanged`). At Rest,
+//!   QueueFault and Spent something is pending (`waits`).
 //! - Spent comes only if the log has no room for a superseding record (`spent`), and then always, unless memory is missing
 //!   (`unspent`). QueueFault is counted (`cause`).
 //!

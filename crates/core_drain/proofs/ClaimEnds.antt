@@ -1,5 +1,5 @@
 -- How a turn ends by what a claim answers.
-use Rattle.std.proofs.Common.{◌≡◌, ◌∙◌, inr, true, false, [], refl, sym, ap, subst}
+use Rattle.std.proofs.Common.{◌≡◌, ◌≢◌, ◌∙◌, inr, true, false, [], refl, sym, ap, subst}
 use Rattle.command_core.specs.core_spec.History.{History}
 use Rattle.command_core.specs.queue_log.Queued.{queue_size}
 use Rattle.core_course.specs.table_machine.Table.{Table}
@@ -7,7 +7,7 @@ use Rattle.command_core.specs.core_state.declared.state.CoreState.{CoreState}
 use Rattle.command_core.specs.core_state.StandsFor.{history_of}
 use Rattle.command_core.specs.core_claims.declared.answers.Claimed.{Claimed}
 use Rattle.command_core.specs.core_claims.declared.answers.Claimed.TheVariants as claimed
-use Rattle.command_core.specs.core_claims.Claims.{ClaimGives, IsOverfull}
+use Rattle.command_core.specs.core_claims.Claims.{ClaimGives, LeavesPending, IsOverfull}
 use Rattle.core_course.specs.Sight.{Sight, Stood, is_down}
 use Rattle.core_drain.proofs.Links.{core_up}
 use Rattle.core_drain.proofs.Claims.{ClaimSays}
@@ -20,24 +20,31 @@ module _ {D K : Type 0} (w : Sight D K) where
   pub record ClaimAnswers (came : Claimed) (old new : CoreState D K) : Type 0 where
     pub gives : (start : History) → Stood w old start → ClaimGives came old.tables.ttls (history_of old start) (history_of new start)
     pub nothing : came ≡ claimed.Done → new.pending ≡ []
+    pub waits : LeavesPending came → new.pending ≢ []
     pub spent : (start : History) → Stood w old start → came ≡ claimed.Spent → IsOverfull old.tables.ttls (queue_size new.queue) (history_of new start)
     pub up : (came ≡ claimed.QueueFault → ⊥) → is_down w new ≡ is_down w old
 
   module _ (old new : CoreState D K) (up : is_down w old ≡ false) where
     -- the command that was to be superseded
     fault_left : ClaimSays w claimed.QueueFault old new → ClaimAnswers claimed.QueueFault old new → SomethingWaits w old new
-    fault_left says a start stood =
-        let last = (a.gives start stood).1 in
-        queued_waits new.tables.ttls last.q (history_of new start) (says.stands start stood).holds.says.plain.legal last.outdated.queued
+    fault_left says a = (
+      a.waits tt,
+      λ start stood.
+          let last = (a.gives start stood).1 in
+          queued_waits new.tables.ttls last.q (history_of new start) (says.stands start stood).holds.says.plain.legal last.outdated.queued,
+    )
 
     overfull : ClaimSays w claimed.Spent old new → ClaimAnswers claimed.Spent old new → (start : History) → Stood w old start → IsOverfull new.tables.ttls (queue_size new.queue) (history_of new start)
     overfull says a start stood =
         subst (λ (t : Table). IsOverfull t.ttls (queue_size new.queue) (history_of new start)) (sym says.others.tables) (a.spent start stood refl)
 
     spent_left : ClaimSays w claimed.Spent old new → ClaimAnswers claimed.Spent old new → SomethingWaits w old new
-    spent_left says a start stood =
-        let last = overfull says a start stood in
-        queued_waits new.tables.ttls last.q (history_of new start) (says.stands start stood).holds.says.plain.legal last.outdated.queued
+    spent_left says a = (
+      a.waits tt,
+      λ start stood.
+          let last = overfull says a start stood in
+          queued_waits new.tables.ttls last.q (history_of new start) (says.stands start stood).holds.says.plain.legal last.outdated.queued,
+    )
 
     pub claim_ends : (came : Claimed) → ClaimSays w came old new → ClaimAnswers came old new → EndsHere w (after_claim came) old new
     claim_ends (claimed.Job job) says a = a.up (λ e. absurd cc) ∙ up

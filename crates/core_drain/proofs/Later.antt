@@ -21,7 +21,7 @@ module _ {D K : Type 0} (w : Sight D K) where
     queue_rose_later (inr second) = inr (rose_from 1 _ _ _ p.counts.queue_b second)
 
     pub waits_later : SomethingWaits w b c → SomethingWaits w a c
-    waits_later h start stood = h start (p.stands start stood)
+    waits_later h = (h.0, λ start stood. h.1 start (p.stands start stood))
 
     pub room_later : HasNoRoom w b c → HasNoRoom w a c
     room_later (to_settle job v submitted waits fit verdict spent) = to_settle job v submitted (λ start stood. waits start (p.stands start stood)) fit verdict spent

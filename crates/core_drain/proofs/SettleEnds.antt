@@ -1,5 +1,5 @@
 -- How a turn ends by what a settle answers.
-use Rattle.std.proofs.Common.{◌≡◌, ◌∙◌, ◌↔◌, ◌⊎◌, inl, inr, ℕ, ◌+◌, ◌<◌, ◌==◌, if◌then◌else◌, arith, Bool, true, false, [], ◌∷◌, ◌++◌, Some, refl, sym, ap, subst}
+use Rattle.std.proofs.Common.{◌≡◌, ◌≢◌, ◌∙◌, ◌↔◌, ◌⊎◌, inl, inr, ℕ, ◌+◌, ◌<◌, ◌==◌, if◌then◌else◌, arith, Bool, true, false, [], ◌∷◌, ◌++◌, Some, refl, sym, ap, subst}
 use Rattle.core_course.specs.fleet_ports.Counts.{RoseBy}
 use Rattle.command_decode.specs.fleet_rows.declared.refusal.Refusal.{Refusal}
 use Rattle.command_core.specs.fleet_keeper.Limits.{IsPast}
@@ -24,7 +24,7 @@ use Rattle.command_core.specs.core_settles.declared.answers.Settled.{Settled}
 use Rattle.command_core.specs.core_settles.declared.answers.Settled.TheVariants as settled
 use Rattle.command_core.specs.core_settles.declared.answers.Verdict.{Verdict}
 use Rattle.command_core.specs.core_settles.declared.answers.Verdict.TheVariants as verdict
-use Rattle.command_core.specs.core_settles.Settles.{IsVerdictOf, IsSpent, StoreRose, settled_events}
+use Rattle.command_core.specs.core_settles.Settles.{IsVerdictOf, IsSpent, LeavesPending, StoreRose, settled_events}
 use Rattle.core_course.specs.Sight.{Sight, Stood, is_down}
 use Rattle.core_drain.proofs.Links.{core_up}
 use Rattle.core_drain.proofs.Fails.{rose_behind}
@@ -43,6 +43,7 @@ module _ {D K : Type 0} (w : Sight D K) where
   -- further clauses of a settle: when each answer comes
   pub record SettleAnswers (came : Settled) (job : Job) (v : Verdict) (old new : CoreState D K) : Type 0 where
     pub not_claimed : (came ≡ settled.NotClaimed) ↔ ((is_down w old ≡ false) × (is_claimed job.receipt old.pending ≡ false))
+    pub waits : LeavesPending came new.undone → new.pending ≢ []
     pub refusals : (refusal : Refusal) → v ≡ verdict.Refused refusal → new.store ≡ old.store
     pub store_cause : StoreRose came v (w.store_faults old.store) (w.store_faults new.store)
     pub store_down : is_down w old ≡ false → (w.store_down new.store ≡ true) ↔ (came ≡ settled.StoreDown)
@@ -59,16 +60,22 @@ module _ {D K : Type 0} (w : Sight D K) where
       ap (λ (es : History). standing r (es ++ start)) events ∙ released_is r (r == r) (standing r (history_of old start)) refl
 
   -- and waits
-  pub release_left : (r : ℕ) (old new : CoreState D K) → ((start : History) → Stood w old start → Stood w new start) → new.events.list ≡ Release r ∷ old.events.list → SomethingWaits w old new
-  release_left r old new stands events start stood none =
-      let now : history_of new start ≡ Release r ∷ history_of old start = ap (λ (es : History). es ++ start) events in
-      released_waits new.tables.ttls r (history_of old start) (subst (IsLegal new.tables.ttls) now (stands start stood).holds.says.plain.legal) (ap pending_of (sym now) ∙ none)
+  pub release_left : (r : ℕ) (old new : CoreState D K) → new.pending ≢ [] → ((start : History) → Stood w old start → Stood w new start) → new.events.list ≡ Release r ∷ old.events.list → SomethingWaits w old new
+  release_left r old new some stands events = (
+    some,
+    λ start stood none.
+        let now : history_of new start ≡ Release r ∷ history_of old start = ap (λ (es : History). es ++ start) events in
+        released_waits new.tables.ttls r (history_of old start) (subst (IsLegal new.tables.ttls) now (stands start stood).holds.says.plain.legal) (ap pending_of (sym now) ∙ none),
+  )
 
   -- so does what stays claimed
-  claim_left : (r : ℕ) (old new : CoreState D K) → new.events.list ≡ old.events.list → is_claimed r old.pending ≡ true → SomethingWaits w old new
-  claim_left r old new events is start stood none =
-      let now : history_of new start ≡ history_of old start = ap (λ (es : History). es ++ start) events in
-      claimed_waits r old.pending is (stood.holds.says.pending ∙ (ap pending_of (sym now) ∙ none))
+  claim_left : (r : ℕ) (old new : CoreState D K) → new.pending ≢ [] → new.events.list ≡ old.events.list → is_claimed r old.pending ≡ true → SomethingWaits w old new
+  claim_left r old new some events is = (
+    some,
+    λ start stood none.
+        let now : history_of new start ≡ history_of old start = ap (λ (es : History). es ++ start) events in
+        claimed_waits r old.pending is (stood.holds.says.pending ∙ (ap pending_of (sym now) ∙ none)),
+  )
 
   spent_still : (job : Job) (v : Verdict) (old new : CoreState D K) → new.queue ≡ old.queue → new.store ≡ old.store → IsSpent w.store_size job v old → IsSpent w.store_size job v new
   spent_still job (verdict.Change change) old new queue_same store_same (inl past) =
@@ -115,8 +122,8 @@ module _ {D K : Type 0} (w : Sight D K) where
       twice = λ went. a.twice up went;
     })
     fault_left says a false true is how =
-        inr (claim_left job.receipt old new (fault_added says false true is how) (is_claimed_by settled.QueueFault (λ e. cc) a (is_claimed job.receipt old.pending) refl))
-    fault_left says a false false is how = inr (release_left job.receipt old new says.stands (fault_added says false false is how))
+        inr (claim_left job.receipt old new (a.waits is) (fault_added says false true is how) (is_claimed_by settled.QueueFault (λ e. cc) a (is_claimed job.receipt old.pending) refl))
+    fault_left says a false false is how = inr (release_left job.receipt old new (a.waits is) says.stands (fault_added says false false is how))
 
     pub settle_ends : (came : Settled) → SettleSays w came job v old new → SettleAnswers came job v old new → EndsHere w (after_settle came) old new
     settle_ends settled.Applied says a = a.up (λ e. absurd cc) (λ e. absurd cc) ∙ up
@@ -125,7 +132,7 @@ module _ {D K : Type 0} (w : Sight D K) where
     settle_ends settled.StoreDown says a = (
       rose_behind w 2 old new says.adds (rose_twice v (w.store_faults old.store) (w.store_faults new.store) a.store_cause (no_refusal a)),
       (a.store_down up).1 refl,
-      claim_left job.receipt old new says.adds (is_claimed_by settled.StoreDown (λ e. cc) a (is_claimed job.receipt old.pending) refl),
+      claim_left job.receipt old new (a.waits tt) says.adds (is_claimed_by settled.StoreDown (λ e. cc) a (is_claimed job.receipt old.pending) refl),
     )
     settle_ends settled.QueueFault says a = (
       says.cause.cause refl,
@@ -136,7 +143,7 @@ module _ {D K : Type 0} (w : Sight D K) where
     settle_ends settled.Spent says a = (
       a.up (λ e. absurd cc) (λ e. absurd cc) ∙ up,
       to_settle job v (says.kept_submitted job.receipt job.command submitted) (λ start stood. release_queued job.receipt old new says.adds start) fit decodes (spent_still job v old new says.leaves.1 says.leaves.2 says.leaves.0),
-      release_left job.receipt old new says.stands says.adds,
+      release_left job.receipt old new (a.waits tt) says.stands says.adds,
     )
     settle_ends settled.Down says a = let apart : true ≡ false = sym (says.down.0 refl) ∙ up in cc
     settle_ends (settled.Memory given u) says a = a.up (λ e. absurd cc) (λ e. absurd cc) ∙ up

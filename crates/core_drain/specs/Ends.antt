@@ -23,9 +23,9 @@ use Rattle.core_course.specs.Sight.{Sight, Stood, is_down}
 use Rattle.core_drain.specs.declared.ends.WorkEnd.{WorkEnd}
 use Rattle.core_drain.specs.declared.ends.WorkEnd.TheVariants.{Done, QueueFault, StoreDown, Spent, Down, Memory}
 
--- something is pending after it, in each history that the core stood for before it
+-- something is pending after it, in the core and in each history that the core stood for before it
 abbrev pub SomethingWaits : {D K : Type 0} → Sight D K → CoreState D K → CoreState D K → Type 0
-SomethingWaits w old new = (start : History) → Stood w old start → pending_of (history_of new start) ≢ []
+SomethingWaits w old new = (new.pending ≢ []) × ((start : History) → Stood w old start → pending_of (history_of new start) ≢ [])
 
 -- The log of the queue or of the store has no room for the record that settles a queued command. Or the queue's log has none for
 -- superseding the least candidate.

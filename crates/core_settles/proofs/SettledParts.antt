@@ -1,5 +1,5 @@
 -- What each outcome of a settle leaves of the core.
-use Rattle.std.proofs.Common.{◌≡◌, ◌≢◌, ◌∙◌, ◌↔◌, ℕ, ◌≤◌, Bool, true, false, ◌||◌, [], ◌∷◌, ◌++◌, length, Some, arith, refl, sym, ap, subst}
+use Rattle.std.proofs.Common.{◌≡◌, ◌≢◌, ◌∙◌, ◌↔◌, ℕ, ◌≤◌, ◌==◌, Bool, true, false, ◌||◌, if◌then◌else◌, List, [], ◌∷◌, ◌++◌, length, Some, arith, refl, sym, ap, subst}
 use Rattle.std.specs.List.{flat_map}
 use Rattle.core_claims.proofs.of_plain_laws.Booleans.{not_so, never}
 use Rattle.core_claims.specs.fleet_rows.declared.command.Command.{Command}
@@ -10,12 +10,14 @@ use Rattle.core_claims.specs.fleet_rows.declared.refusal.Refusal.{Refusal}
 use Rattle.core_claims.specs.fleet_keeper.declared.kept.Kept.{Kept}
 use Rattle.core_claims.specs.fleet_keeper.declared.kept.Kept.TheVariants as kept
 use Rattle.core_claims.specs.fleet_keeper.Kept.{IsFaulty}
+use Rattle.core_claims.specs.core_spec.declared.entry.Entry.{Entry}
 use Rattle.core_claims.specs.core_spec.declared.event.Event.{Event}
 use Rattle.core_claims.specs.core_spec.declared.event.Event.TheVariants.{Release, Apply, Fail, Discard}
 use Rattle.core_claims.specs.core_spec.History.{History}
 use Rattle.core_claims.specs.core_machine.Claims.{is_claimed}
 use Rattle.core_claims.specs.table_machine.Table.{Table}
-use Rattle.core_claims.specs.core_machine.Steps.{at_receipt}
+use Rattle.core_claims.specs.core_machine.Steps.{at_receipt, marked}
+use Rattle.core_claims.specs.core_machine.Steps as steps
 use Rattle.core_claims.specs.core_spec.Pending.{NoneIsWornOut}
 use Rattle.core_claims.specs.queue_log.declared.queue.QueueLog.{QueueLog}
 use Rattle.core_claims.specs.queue_log.Queued.{QueueIsUp, queue_down}
@@ -35,7 +37,7 @@ use Rattle.core_settles.specs.declared.answers.Settled.TheVariants as settled
 use Rattle.core_settles.specs.declared.answers.Verdict.{Verdict}
 use Rattle.core_settles.specs.declared.answers.Verdict.TheVariants as verdict
 use Rattle.core_settles.specs.Ends.{HasFreed, HasFailed}
-use Rattle.core_settles.specs.Settles.{StoreRose, settled_events, SettleLeaves}
+use Rattle.core_settles.specs.Settles.{StoreRose, settled_events, SettleLeaves, LeavesPending}
 use Rattle.core_settles.proofs.Outcomes.{Put, Keeps, Outcome, down, unclaimed, no_memory, freed, refused, refuse_unput, refuse_open, applied, undone, store_down, failed, given_up, fail_unput, fail_open}
 
 -- the answers with which the store's count stays
@@ -45,6 +47,22 @@ Calm settled.Spent = Unit {0}
 Calm settled.Down = Unit {0}
 Calm (settled.Memory j w) = Unit {0}
 Calm _ = ⊥
+
+-- ---- what is still pending
+
+-- what is claimed is among the entries
+claimed_some : (r : ℕ) (es : List Entry) → is_claimed r es ≡ true → es ≢ []
+claimed_some r [] is none = absurd cc
+claimed_some r (e ∷ es) is none = absurd cc
+
+changed_step : (b : Bool) (x e : Entry) (es : List Entry) → (if b then x ∷ [] else e ∷ []) ++ es ≢ []
+changed_step true x e es none = absurd cc
+changed_step false x e es none = absurd cc
+
+-- and a change of its entry keeps it there
+changed_some : (r : ℕ) (change : Entry → Entry) (es : List Entry) → is_claimed r es ≡ true → flat_map (at_receipt r (λ e. change e ∷ [])) es ≢ []
+changed_some r change [] is = absurd cc
+changed_some r change (e ∷ es) is = changed_step (r == e.receipt) (change e) e (flat_map (at_receipt r (λ e. change e ∷ [])) es)
 
 abbrev Refuses : Verdict → Type 0
 Refuses (verdict.Refused refusal) = Unit {0}
@@ -367,6 +385,36 @@ module _ {D K : Type 0} (p : Ports D K) (job : Job) (old new : CoreState D K) wh
   settle_left came v (given_up change ve e up is f put n_is h) = at_case Left e refl tt
   settle_left came v (fail_unput change ve e up is f put h) = at_case Left e refl tt
   settle_left came v (fail_open change ve e up is f put m) = at_case Left e refl tt
+
+  abbrev Waits : Settled → Type 0
+  Waits came = LeavesPending came new.undone → new.pending ≢ []
+
+  waits_at : {came x : Settled} → came ≡ x → Waits x → Waits came
+  waits_at {came} {x} e h = subst Waits (sym e) h
+
+  freed_waits : is_claimed job.receipt old.pending ≡ true → HasFreed job.receipt old new → new.pending ≢ []
+  freed_waits is h none = changed_some job.receipt (marked false) old.pending is (sym h.pending ∙ none)
+
+  same_waits : is_claimed job.receipt old.pending ≡ true → MemoryStays old new → new.pending ≢ []
+  same_waits is m none = claimed_some job.receipt old.pending is (sym m.pending ∙ none)
+
+  pub settle_waits : (came : Settled) (v : Verdict) → Outcome p job old new came v → Waits came
+  settle_waits came v (down e is same) = waits_at e (λ leaves. absurd leaves)
+  settle_waits came v (unclaimed e up is same) = waits_at e (λ leaves. absurd leaves)
+  settle_waits came v (no_memory e up is m) = waits_at e (λ leaves. same_waits is m.memory)
+  settle_waits came v (freed e up is s h) = waits_at e (λ leaves. freed_waits is h.freed)
+  settle_waits came v (refused refusal ve e up is put store h) = waits_at e (λ leaves. absurd leaves)
+  settle_waits came v (refuse_unput refusal ve e up is put store h) = waits_at e (λ leaves. freed_waits is h)
+  settle_waits came v (refuse_open refusal ve e up is put store m) = waits_at e (λ leaves. same_waits is m)
+  settle_waits came v (applied change ve e up is keeps put h) = waits_at e (λ leaves. absurd leaves)
+  settle_waits came v (undone change ve e up is keeps answer faulty put h) =
+      waits_at e (λ leaves. absurd (let apart : true ≡ false = sym h.undone_is ∙ leaves in cc))
+  settle_waits came v (store_down change ve e up is keeps queue m) = waits_at e (λ leaves. same_waits is m)
+  settle_waits came v (failed change n ve e up is f put n_is few h) =
+      waits_at e (λ leaves none. changed_some job.receipt steps.failed old.pending is (sym h.pending ∙ none))
+  settle_waits came v (given_up change ve e up is f put n_is h) = waits_at e (λ leaves. absurd leaves)
+  settle_waits came v (fail_unput change ve e up is f put h) = waits_at e (λ leaves. freed_waits is h)
+  settle_waits came v (fail_open change ve e up is f put m) = waits_at e (λ leaves. same_waits is m)
 
   -- counts of the queue's disks
   abbrev Counts_are : Settled → Verdict → Type 0

@@ -1,5 +1,5 @@
 -- The contract of a settle: how its answer, the core before and the core after relate.
-use Rattle.std.specs.Prelude.{◌≡◌, ◌⊎◌, ◌↔◌, ℕ, ◌++◌, true, false, ◌≤◌}
+use Rattle.std.specs.Prelude.{◌≡◌, ◌≢◌, ◌⊎◌, ◌↔◌, ℕ, [], ◌++◌, true, false, ◌≤◌}
 use Rattle.core_claims.specs.fleet_rows.declared.command.Command.{Command}
 use Rattle.core_claims.specs.fleet_rows.declared.refusal.Refusal.{Refusal}
 use Rattle.core_claims.specs.core_spec.History.{History}
@@ -12,7 +12,7 @@ use Rattle.core_claims.specs.core_state.Seen.{down_of, events_of, CoreIsSound, I
 use Rattle.core_claims.specs.core_state.Spelling.{HasSpelling}
 use Rattle.core_claims.specs.core_state.StandsFor.{history_of, CoreStandsFor}
 use Rattle.core_settles.specs.Settles.{SettleGives, IsSettling, settled_events, queue_record, QueueWrites, SettleWrites, is_applied}
-use Rattle.core_settles.specs.Settles.{SettleLeaves, StoreRose, IsSpent, IsMemory}
+use Rattle.core_settles.specs.Settles.{SettleLeaves, LeavesPending, StoreRose, IsSpent, IsMemory}
 use Rattle.core_claims.specs.fleet_keeper.declared.keeper.Keeper as keeper
 use Rattle.core_claims.specs.fleet_ports.declared.disk.Disk as disk
 use Rattle.core_claims.specs.core_state.declared.state.CoreState.{CoreState}
@@ -55,6 +55,7 @@ pub record CoreSettles {D K : Type 0} (d : disk.Ghosts D) (k : keeper.Ghosts K) 
   pub unspent : down_of k.down old ≡ false → is_claimed job.receipt old.pending ≡ true → IsSpent k.size job v old
       → (result ≡ came.Spent) ⊎ IsMemory result
   pub leaves : SettleLeaves k.size result job v old new
+  pub waits : LeavesPending result new.undone → new.pending ≢ []
   pub refusals : (refusal : Refusal) → v ≡ verdict.Refused refusal → new.store ≡ old.store
   pub cause : QueueCounts d.fault_count old.queue new.queue (result ≡ came.QueueFault)
   pub twice : down_of k.down old ≡ false → queue_down new.queue ≡ true → QueueRoseTwice d.fault_count old.queue new.queue

@@ -103,6 +103,15 @@ SettleLeaves size (settled.Memory given w) job v old new = (given ≡ job) × (w
 SettleLeaves size settled.StoreDown job v old new = new.queue ≡ old.queue
 SettleLeaves size _ job v old new = Unit {0}
 
+-- The answers at which the command is still pending. At QueueFault it is, unless it was applied and lacks its Done.
+abbrev pub LeavesPending : Settled → Bool → Type 0
+LeavesPending (settled.Failed attempts) undone = Unit {0}
+LeavesPending settled.StoreDown undone = Unit {0}
+LeavesPending settled.QueueFault undone = undone ≡ false
+LeavesPending settled.Spent undone = Unit {0}
+LeavesPending (settled.Memory given w) undone = Unit {0}
+LeavesPending _ undone = ⊥
+
 -- the record that a settle writes to the queue
 abbrev pub queue_record : Settled → Job → Verdict → ℕ → ℕ → Option QueueRecord
 queue_record settled.Applied job v before now = Some (queue.Done job.receipt)

@@ -15,7 +15,8 @@
 //! - Spent, if a log has no room for the verdict, writes nothing and queues the command again (`leaves`, `unspent`). Memory
 //!   hands job and verdict back and writes nothing. NotClaimed comes exactly if the command isn't claimed (`not_claimed`).
 //! - QueueFault after the store's record leaves the command applied and the core down. Otherwise the command is queued again,
-//!   or stays claimed if the log went down. QueueFault is counted (`cause`).
+//!   or stays claimed if the log went down. QueueFault is counted (`cause`). What isn't applied or discarded is pending
+//!   (`waits`).
 //! - A failure of the store comes only if its count rose, StoreDown if it rose by two (`store_cause`). The count never falls
 //!   (`store_later`). StoreDown leaves the queue's log, and the command claimed.
 //!

@@ -94,7 +94,7 @@ module _ {D K : Type 0} (w : Sight D K) where
           unchanged = d.unchanged;
           cause = d.cause;
         } in
-        let answers : ClaimAnswers w came old new = record { gives = d.gives; nothing = d.nothing; spent = d.spent; up = d.up } in
+        let answers : ClaimAnswers w came old new = record { gives = d.gives; nothing = d.nothing; waits = d.waits; spent = d.spent; up = d.up } in
         follows_work (claim_works w came old new says) (λ down. d.unchanged (d.down.1 down)) (after_claim came) (λ up. claim_ends w old new up came says answers)
 
     pub settle_follows : (generation : K → ℕ) (came : Settled) (job : Job) (v : Verdict) → IsSubmitted job.receipt job.command old → IsVerdictOf v job.command → IsFit job.command → SettleDoes w generation came job v old new
@@ -117,6 +117,7 @@ module _ {D K : Type 0} (w : Sight D K) where
         } in
         let answers : SettleAnswers w came job v old new = record {
           not_claimed = d.not_claimed;
+          waits = d.waits;
           refusals = d.refusals;
           store_cause = d.store_cause;
           store_down = d.store_down;

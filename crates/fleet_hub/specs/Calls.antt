@@ -1,5 +1,5 @@
 -- What each call of a core does, clause for clause, between the core found and the core left.
-use Rattle.std.specs.Prelude.{◌≡◌, ◌⊎◌, ◌↔◌, ℕ, ℤ, ◌≤◌, true, false, [], ◌∷◌, ◌++◌, length}
+use Rattle.std.specs.Prelude.{◌≡◌, ◌≢◌, ◌⊎◌, ◌↔◌, ℕ, ℤ, ◌≤◌, true, false, [], ◌∷◌, ◌++◌, length}
 use Rattle.core_drain.specs.fleet_ports.Counts.{Counts, RoseBy}
 use Rattle.core_drain.specs.fleet_rows.declared.command.Command.{Command}
 use Rattle.core_drain.specs.fleet_rows.declared.refusal.Refusal.{Refusal}
@@ -24,7 +24,7 @@ use Rattle.core_drain.specs.core_submits.Submits.{IsFull, IsSubmitOf, SubmitAdds
 use Rattle.core_drain.specs.core_claims.declared.answers.Claimed.{Claimed}
 use Rattle.core_drain.specs.core_claims.declared.answers.Claimed.TheVariants as claim_answer
 use Rattle.core_drain.specs.core_claims.declared.job.Job.{Job}
-use Rattle.core_drain.specs.core_claims.Claims.{ClaimGives, HasSubmittedJob, IsOverfull, IsSuperseding, ClaimAdds}
+use Rattle.core_drain.specs.core_claims.Claims.{ClaimGives, LeavesPending, HasSubmittedJob, IsOverfull, IsSuperseding, ClaimAdds}
 use Rattle.core_drain.specs.core_claims.Releases.{ReleaseGives}
 use Rattle.core_drain.specs.core_settles.declared.answers.Settled.{Settled}
 use Rattle.core_drain.specs.core_settles.declared.answers.Settled.TheVariants as settle_answer
@@ -87,6 +87,7 @@ module _ {D K : Type 0} (w : Sight D K) where
     pub others : OthersStay old new
     pub store : new.store ≡ old.store
     pub nothing : came ≡ claim_answer.Done → new.pending ≡ []
+    pub waits : LeavesPending came → new.pending ≢ []
     pub down : (came ≡ claim_answer.Down) ↔ (is_down w old ≡ true)
     pub unchanged : came ≡ claim_answer.Down → new ≡ old
     pub spent : (start : History) → Stood w old start → came ≡ claim_answer.Spent → IsOverfull old.tables.ttls (queue_size new.queue) (history_of new start)
@@ -122,6 +123,7 @@ module _ {D K : Type 0} (w : Sight D K) where
     pub not_claimed : (came ≡ settle_answer.NotClaimed) ↔ ((is_down w old ≡ false) × (is_claimed job.receipt old.pending ≡ false))
     pub unspent : is_down w old ≡ false → is_claimed job.receipt old.pending ≡ true → settles.IsSpent w.store_size job v old → (came ≡ settle_answer.Spent) ⊎ IsMemory came
     pub leaves : SettleLeaves w.store_size came job v old new
+    pub waits : settles.LeavesPending came new.undone → new.pending ≢ []
     pub refusals : (refusal : Refusal) → v ≡ verdict.Refused refusal → new.store ≡ old.store
     pub cause : QueueCounts w.faults old.queue new.queue (came ≡ settle_answer.QueueFault)
     pub twice : is_down w old ≡ false → queue_down new.queue ≡ true → QueueRoseTwice w.faults old.queue new.queue

@@ -1,5 +1,5 @@
 use Rattle.core_state.proofs.Ports.{Ports}
-use Rattle.core_claims.proofs.ClaimAnswers.{claim_gives, claim_stands, claim_moments, claim_sound, claim_submitted, claim_job, claim_others, claim_store, claim_down, claim_unchanged, claim_adds, claim_nothing, claim_twice, claim_unspent, claim_spent, claim_cause, claim_up}
+use Rattle.core_claims.proofs.ClaimAnswers.{claim_gives, claim_stands, claim_moments, claim_sound, claim_submitted, claim_job, claim_others, claim_store, claim_down, claim_unchanged, claim_adds, claim_nothing, claim_waits, claim_twice, claim_unspent, claim_spent, claim_cause, claim_up}
 use Rattle.core_claims.proofs.claims.claim.Goals as goal
 
 pub returns : goal.returns
@@ -43,6 +43,7 @@ returns g c =
         others = claim_others p c.args.core.now c.claim_step.new.core c.claim_step.result c.claim_step.ensures.does;
         store = claim_store p c.args.core.now c.claim_step.new.core c.claim_step.result c.claim_step.ensures.does;
         nothing = claim_nothing p c.args.core.now c.claim_step.new.core c.claim_step.result c.claim_step.ensures.does;
+        waits = claim_waits p c.args.core.now c.claim_step.new.core c.claim_step.result c.claim_step.ensures.does;
         down = claim_down p c.args.core.now c.claim_step.new.core c.claim_step.result c.claim_step.ensures.does;
         unchanged = claim_unchanged p c.args.core.now c.claim_step.new.core c.claim_step.result c.claim_step.ensures.does;
         spent = λ start stands. claim_spent p c.args.core.now c.claim_step.new.core start stands c.claim_step.result c.claim_step.ensures.does;

@@ -89,6 +89,7 @@ returns-in_default-clause-ends g c =
     let answers : ClaimAnswers w c.claim.result c.args.core.now c.claim.new.self = record {
       gives = c.claim.ensures.does.gives;
       nothing = c.claim.ensures.does.nothing;
+      waits = c.claim.ensures.does.waits;
       spent = c.claim.ensures.does.spent;
       up = c.claim.ensures.does.up;
     } in

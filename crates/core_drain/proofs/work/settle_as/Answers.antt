@@ -80,6 +80,7 @@ returns-in_default-clause-ends g c =
     } in
     let answers : SettleAnswers w c.settle.result c.args.job c.args.verdict c.args.core.now c.settle.new.self = record {
       not_claimed = c.settle.ensures.does.not_claimed;
+      waits = c.settle.ensures.does.waits;
       refusals = c.settle.ensures.does.refusals;
       store_cause = c.settle.ensures.does.store_cause;
       store_down = c.settle.ensures.does.store_down;

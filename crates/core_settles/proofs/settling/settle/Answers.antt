@@ -2,7 +2,7 @@ use Rattle.core_claims.proofs.of_core_state.Ports.{Ports}
 use Rattle.core_settles.proofs.Outcomes.{Outcome, outcome}
 use Rattle.core_settles.proofs.SettledHistory.{settle_gives, settle_stands, settle_moments}
 use Rattle.core_settles.proofs.SettledLogs.{settle_writes, settle_stores, settle_unspent}
-use Rattle.core_settles.proofs.SettledParts.{settle_adds, settle_keeper, settle_later, settle_sound, settle_submitted, settle_opening, settle_down, settle_unclaimed, settle_left, settle_refusals, settle_cause, settle_twice, settle_rose, settle_store_down, settle_up}
+use Rattle.core_settles.proofs.SettledParts.{settle_adds, settle_keeper, settle_later, settle_sound, settle_submitted, settle_opening, settle_down, settle_unclaimed, settle_left, settle_waits, settle_refusals, settle_cause, settle_twice, settle_rose, settle_store_down, settle_up}
 use Rattle.core_settles.proofs.SettledSpellings.{settle_spelling}
 use Rattle.core_settles.proofs.settling.settle.Goals as goal
 
@@ -53,6 +53,7 @@ returns g c =
         not_claimed = settle_unclaimed p c.args.job c.args.core.now c.settle_step.new.core c.settle_step.result c.args.verdict o;
         unspent = λ up claimed s. settle_unspent p c.args.job c.args.core.now c.settle_step.new.core c.settle_step.result c.args.verdict c.settle_step.ensures.does up claimed s;
         leaves = settle_left p c.args.job c.args.core.now c.settle_step.new.core c.settle_step.result c.args.verdict o;
+        waits = settle_waits p c.args.job c.args.core.now c.settle_step.new.core c.settle_step.result c.args.verdict o;
         refusals = λ refusal e. settle_refusals p c.args.job c.args.core.now c.settle_step.new.core c.settle_step.result c.args.verdict o refusal e;
         cause = settle_cause p c.args.job c.args.core.now c.settle_step.new.core c.settle_step.result c.args.verdict o;
         twice = λ up down. settle_twice p c.args.job c.args.core.now c.settle_step.new.core c.settle_step.result c.args.verdict o up down;
