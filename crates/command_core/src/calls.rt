@@ -1,17 +1,11 @@
 //! The core and its calls.
-ghost use Rattle.std.specs.Prelude.{◌≡◌, ◌≤◌, ℕ, length, false, ◌^◌, ◌-◌, min};
+ghost use Rattle.std.specs.Prelude.{◌≡◌, ◌≤◌, length, false, ◌^◌, ◌-◌, min};
 ghost use Rattle.core_submits.specs.supersede_core.Waiting.{payload_bytes};
-ghost use Rattle.core_layout.specs.fleet_rows.declared.command.Command.{Command};
 ghost use Rattle.core_layout.specs.history_spec.Lawful.{HasStamp};
-ghost use Rattle.core_layout.specs.core_spec.History.{History};
-ghost use Rattle.core_submits.specs.core_state.Changes.{OthersStay};
 ghost use Rattle.core_submits.specs.core_state.Seen.{down_of, down_by_of, events_of, CoreIsSound, IsSubmitted, IsFit};
 ghost use Rattle.core_submits.specs.core_state.Spelling.{HasSpelling};
-ghost use Rattle.core_submits.specs.core_state.StandsFor.{CoreStandsFor};
 ghost use Rattle.core_submits.specs.Call.{CoreSubmits};
-ghost use Rattle.core_submits.specs.core_machine.Claims.{is_claimed};
-ghost use Rattle.core_settles.specs.core_claims.Frees.{Releases};
-ghost use Rattle.core_settles.specs.core_claims.Calls.{CoreClaims, CoreReleases};
+ghost use Rattle.core_settles.specs.core_claims.Calls.{CoreClaims, CoreReleases, CoreFrees};
 ghost use Rattle.core_settles.specs.Settles.{IsVerdictOf};
 ghost use Rattle.core_settles.specs.Call.{CoreSettles};
 ghost use Rattle.core_sweeps.specs.Call.{CoreSweeps};
@@ -88,16 +82,7 @@ impl<D: Disk + Drop, K: Keeper + Drop> Core<D, K> {
     /// Queues every claimed command again. It takes no memory and writes to no disk.
     pub fn free_claims(&mut self)
         requires up { down_of K.down self.old ≡ false }
-        ensures releases { Releases (events_of self.old) (events_of self.new) }
-        ensures none { (r : ℕ) → is_claimed r self.new.pending ≡ false }
-        ensures stands { (start : History)
-            → CoreStandsFor D.Disk K.Keeper self.old start
-            → CoreStandsFor D.Disk K.Keeper self.new start }
-        ensures submitted { (r : ℕ) (c : Command) → IsSubmitted r c self.old → IsSubmitted r c self.new }
-        ensures others { OthersStay self.old self.new }
-        ensures queue { self.new.queue ≡ self.old.queue }
-        ensures store { self.new.store ≡ self.old.store }
-        ensures last { self.new.last ≡ self.old.last }
+        ensures does { CoreFrees D.Disk K.Keeper self.old self.new }
     {
         free_claims(&mut self.state);
     }

@@ -14,10 +14,10 @@
 //! `core_state` says which history a core stands for. Each call says which events it adds to that history. At each moment within
 //! a call, a crash leaves images that stand for the history before, with a part of what the call was writing.
 //!
-//! Submit, claim, release, settle, sweep and compact have one clause each, `does`. It is the record that the crate below states
-//! of its own function: `CoreSubmits` of `core_submits`, `CoreClaims` and `CoreReleases` of `core_claims`, `CoreSettles` of
-//! `core_settles`, `CoreSweeps` of `core_sweeps`, `CoreCompacts` of `core_compact`. Opening and `free_claims` have the clauses of
-//! `core_opening` and `core_claims`. What the contracts promise beside these:
+//! The calls that change a core, and its opening, have one clause each, `does`. It is the record that the crate below states of
+//! its own function: `CoreOpens` of `core_opening`, `CoreSubmits` of `core_submits`, `CoreClaims`, `CoreReleases` and `CoreFrees`
+//! of `core_claims`, `CoreSettles` of `core_settles`, `CoreSweeps` of `core_sweeps`, `CoreCompacts` of `core_compact`. What the
+//! contracts promise beside these:
 //! - A core is sound and writable between the calls: that is the type's invariant (`IsAtRest`), so no call requires it.
 //! - What [`lay_core`] left can be opened, undamaged ([`laid_files_can_be_opened`]).
 //! - `tables`, `discards`, `tally`, `pending`, `is_down` and `down_by` read exactly. `prepare` leaves the core as it is, also

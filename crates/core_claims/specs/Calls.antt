@@ -1,4 +1,4 @@
--- The contracts of a claim and of a release: how the answer, the core before and the core after relate.
+-- The contracts of a claim and of both releases: how the answer, the core before and the core after relate.
 use Rattle.std.specs.Prelude.{◌≡◌, ◌≢◌, ◌⊎◌, ◌↔◌, ℕ, true, false, [], ◌∷◌}
 use Rattle.core_state.specs.fleet_rows.declared.command.Command.{Command}
 use Rattle.core_state.specs.core_spec.History.{History}
@@ -8,6 +8,7 @@ use Rattle.core_state.specs.Puts.{QueueCounts, QueueRoseTwice}
 use Rattle.core_state.specs.queue_log.Queued.{queue_down, queue_size}
 use Rattle.core_state.specs.Seen.{down_of, CoreIsSound, IsSubmitted, events_of}
 use Rattle.core_state.specs.StandsFor.{history_of, CoreStandsFor}
+use Rattle.core_claims.specs.Frees.{Releases}
 use Rattle.core_claims.specs.Claims.{ClaimGives, LeavesPending, HasSubmittedJob, IsOverfull, IsSuperseding, ClaimAdds}
 use Rattle.core_state.specs.core_spec.declared.event.Event.TheVariants as event
 use Rattle.core_state.specs.core_machine.Claims.{is_claimed}
@@ -59,6 +60,20 @@ pub record CoreReleases {D K : Type 0} (d : disk.Ghosts D) (k : keeper.Ghosts K)
   pub gives : (start : History)
       → CoreStandsFor d k old start → down_of k.down old ≡ false
       → ReleaseGives receipt (history_of old start) (history_of new start)
+  pub stands : (start : History)
+      → CoreStandsFor d k old start
+      → CoreStandsFor d k new start
+  pub sound : CoreIsSound d k new
+  pub submitted : (r : ℕ) (c : Command) → IsSubmitted r c old → IsSubmitted r c new
+  pub others : OthersStay old new
+  pub queue : new.queue ≡ old.queue
+  pub store : new.store ≡ old.store
+  pub last : new.last ≡ old.last
+
+-- every claimed command of a core that is up is queued again
+pub record CoreFrees {D K : Type 0} (d : disk.Ghosts D) (k : keeper.Ghosts K) (old new : CoreState D K) : Type 0 where
+  pub releases : Releases (events_of old) (events_of new)
+  pub none : (r : ℕ) → is_claimed r new.pending ≡ false
   pub stands : (start : History)
       → CoreStandsFor d k old start
       → CoreStandsFor d k new start

@@ -7,8 +7,8 @@
 //! Contracts say which events each call adds, and that the core then stands for the history with them. `specs/Claims.antt` says
 //! what a claim's answer means in the history, `specs/Releases.antt` and `specs/Frees.antt` what the other two do.
 //!
-//! [`claim`] and [`release`] have one clause each, `does`: the records `CoreClaims` and `CoreReleases` (`specs/Calls.antt`).
-//! The fields of `CoreClaims`:
+//! Each has one clause, `does`: the records `CoreClaims`, `CoreReleases` and `CoreFrees` (`specs/Calls.antt`). The fields of
+//! `CoreClaims`:
 //! - `gives`: stale candidates are superseded, then the least one is handed out. `adds`: exactly these events and records.
 //! - Done comes only if nothing is pending (`nothing`), Down exactly if the core was down (`down`, `unchanged`). At Rest,
 //!   QueueFault and Spent something is pending (`waits`).

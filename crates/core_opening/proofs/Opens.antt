@@ -20,7 +20,7 @@ use Rattle.core_state.specs.core_spec.Damage.{AreQueued, IsQueueLog, EachIs}
 use Rattle.core_state.specs.core_spec.History.{History}
 use Rattle.core_state.specs.core_spec.Stands.{Stands}
 use Rattle.core_state.specs.fleet_keeper.declared.log_keeper.LogKeeper.{LogKeeper}
-use Rattle.core_state.specs.fleet_keeper.Keeper.{pair_of}
+use Rattle.core_state.specs.fleet_keeper.Keeper.{pair_of, faults_of, opened_of, IsWithin}
 use Rattle.core_state.specs.fleet_keeper.Laws.{image_is}
 use Rattle.core_state.specs.fleet_keeper.Opened.{IsRead}
 use Rattle.core_state.specs.fleet_keeper.Pairs.{records_at}
@@ -34,7 +34,7 @@ use Rattle.core_opening.specs.declared.faults.FileName.{FileName}
 use Rattle.core_opening.specs.declared.faults.FileName.TheVariants.{QueueA, QueueB, StoreA, StoreB}
 use Rattle.core_opening.specs.declared.faults.OpenCoreFault.{OpenCoreFault}
 use Rattle.core_opening.specs.declared.faults.OpenCoreFault.TheVariants.{QueueFault, StoreFault, Damaged, Memory, Spent}
-use Rattle.core_opening.specs.Opened.{LogCore, found_queue, found_store, IsQueueDamageOf, IsCoreDamage, IsFound, HasSize, HasNoRoom, HadRoom, LacksDone, TellsMissing, MatchOpening, MatchGathered, MatchMended, IsQueueFault, IsStoreFault, IsSameCore, AreUntouched, DisksStand, OpensWithin, CountsIn, GoesOn, disks_in, disks_after, SameStore, queue_as_read, HasWritten, KeepsRecords}
+use Rattle.core_opening.specs.Opened.{LogCore, found_queue, found_store, IsQueueDamageOf, IsCoreDamage, IsFound, HasSize, HasNoRoom, HadRoom, LacksDone, TellsMissing, MatchOpening, MatchGathered, MatchMended, IsQueueFault, IsStoreFault, IsSameCore, AreUntouched, DisksStand, OpensWithin, CountsIn, GoesOn, disks_in, disks_after, SameStore, IsAtStart, queue_as_read, HasWritten, KeepsRecords}
 
 -- ---- logs that are found aren't damaged
 
@@ -177,6 +177,57 @@ if_map (Err e) to p = tt
 pub if_any : {D : Type 0} (result : Result (LogCore D) (OpenCoreFault × Disks D)) {P : Type 0} → P → IfOk result (λ c. P)
 if_any (Ok core) p = p
 if_any (Err e) p = tt
+
+-- ---- what reading the logs and writing the Done say together
+
+-- writing the Done tells no damage
+pub mended_whole : {D : Type 0} (result : Result (LogCore D) (OpenCoreFault × Disks D)) (missing : Option ℕ) (size : ℕ) → MatchMended result missing size
+    → IfErr result (λ e. (file : FileName) (at : ℕ) → e.0 ≡ Damaged file at → ⊥)
+mended_whole (Ok core) missing size room = tt
+mended_whole (Err (Damaged place offset, disks)) missing size room = absurd room
+mended_whole (Err (QueueFault, disks)) missing size room = λ file at is. cc
+mended_whole (Err (StoreFault, disks)) missing size room = absurd room
+mended_whole (Err (Memory, disks)) missing size room = absurd room
+mended_whole (Err (Spent, disks)) missing size room = λ file at is. cc
+
+-- nor a fault of the store
+mended_store_calm : {D : Type 0} (result : Result (LogCore D) (OpenCoreFault × Disks D)) (missing : Option ℕ) (size : ℕ) → MatchMended result missing size → IsStoreFault result → ⊥
+mended_store_calm (Ok core) missing size room fault = fault
+mended_store_calm (Err (Damaged file at, disks)) missing size room fault = room
+mended_store_calm (Err (QueueFault, disks)) missing size room fault = fault
+mended_store_calm (Err (StoreFault, disks)) missing size room fault = room
+mended_store_calm (Err (Memory, disks)) missing size room fault = room
+mended_store_calm (Err (Spent, disks)) missing size room fault = fault
+
+pub mended_store : {D : Type 0} (count : D → ℕ) (result : Result (LogCore D) (OpenCoreFault × Disks D)) (missing : Option ℕ) (size : ℕ) (state : LogCore D) (a b : ℕ) → MatchMended result missing size
+    → SameStore state (disks_after result) → PairCounts a (count (disk_a (pair_of state.store))) b (count (disk_b (pair_of state.store))) ⊥
+    → PairCounts a (count (disks_after result).store_a) b (count (disks_after result).store_b) (IsStoreFault result)
+mended_store count result missing size state a b room store counts =
+    let same = counts.calm (λ f. f) in
+    calm_counts a (count (disks_after result).store_a) b (count (disks_after result).store_b) (IsStoreFault result) (mended_store_calm result missing size room) (ap count store.store_a ∙ same.0, ap count store.store_b ∙ same.1)
+
+pub mended_queue : (a a1 a2 b b1 b2 : ℕ) (Fault : Type 0) → PairCounts a a1 b b1 ⊥ → PairCounts a1 a2 b1 b2 Fault → PairCounts a a2 b b2 Fault
+mended_queue a a1 a2 b b1 b2 Fault first next =
+    let same = first.calm (λ f. f) in
+    subst (λ (n : ℕ). PairCounts n a2 b b2 Fault) same.0 (subst (λ (n : ℕ). PairCounts a1 a2 n b2 Fault) same.1 next)
+
+start_stays : {D : Type 0} (count : D → ℕ) (disks : Disks D) (old new : LogCore D) → IsAtStart count disks old → IsSameCore old new → IsAtStart count disks new
+start_stays {D} count disks old new start same = record {
+  opened_a = same.opened_a ∙ start.opened_a;
+  opened_b = same.opened_b ∙ start.opened_b;
+  faults = ap faults_of same.store ∙ start.faults;
+  opened = ap opened_of same.store ∙ start.opened;
+  within = subst (λ (k : LogKeeper D). IsWithin count k (0, count disks.store_a, count disks.store_b)) (sym same.store) start.within;
+}
+
+pub mended_start : {D : Type 0} (count : D → ℕ) (disks : Disks D) (state : LogCore D) (result : Result (LogCore D) (OpenCoreFault × Disks D)) → IsAtStart count disks state → IfOk result (IsSameCore state)
+    → IfOk result (IsAtStart count disks)
+mended_start count disks state result start same = if_map result (λ core is. start_stays count disks state core start is) same
+
+pub mended_untouched : {D : Type 0} (seen : D → List ℕ) (may_leave : D → List ℕ → Type 0) (moment : D → ℕ) (left_since : D → ℕ → List ℕ → Type 0) (old read : Disks D) (result : Result (LogCore D) (OpenCoreFault × Disks D))
+    → AreUntouched seen may_leave moment left_since old read → IfErr result (λ e. (e.0 ≡ QueueFault → ⊥) → e.1 ≡ read) → IfErr result (λ e. (e.0 ≡ QueueFault → ⊥) → AreUntouched seen may_leave moment left_since old e.1)
+mended_untouched seen may_leave moment left_since old read (Ok core) same unwritten = tt
+mended_untouched {D} seen may_leave moment left_since old read (Err e) same unwritten = λ other. subst (λ (x : Disks D). AreUntouched seen may_leave moment left_since old x) (sym (unwritten other)) same
 
 -- ---- an opening that failed keeps the records
 

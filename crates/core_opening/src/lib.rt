@@ -8,14 +8,15 @@
 //! its Done is missing, and is written before the answer. The first event of the new core is a restart. Both logs may start with
 //! the checkpoint of any earlier history.
 //!
-//! The clauses of [`open_state`]:
+//! The one clause of [`open_state`] is the record `CoreOpens` (`specs/Call.antt`). Its fields:
 //! - Exactly the records of the bytes are found, or the first damage, the queue's before the store's. Spent comes only if a
 //!   missing Done has no room (`told`). Files that stand for a history are never called damaged (`never_damaged`), and damaged
 //!   ones are not opened (`undamaged`).
 //! - The core stands for each history and the restart (`stands`, `events`). Both logs have the records found, and the Done that
 //!   was missing (`logs`). The core is up, with its starting counts (`up`, `start`).
-//! - Only a missing Done is written, and nothing after a refusal except QueueFault (`untouched`). Faults are counted
-//!   (`queue_cause`, `store_cause`).
+//! - Only a missing Done is written, and nothing after a refusal except QueueFault (`untouched`). After a refusal the records are
+//!   as they were read, or the queue has that Done too, whatever the images were (`kept`). Faults are counted (`queue_cause`,
+//!   `store_cause`).
 //!
 //! Costs: one pass over both logs. Changes move into the tables. Of the queue's payloads, those of pending and discarded commands
 //! are kept; a command that ended is dropped at the record that ends it. Of the rows only report texts are computed.

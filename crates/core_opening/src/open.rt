@@ -1,5 +1,5 @@
 //! Opens a core's state, from both logs together.
-ghost use Rattle.std.specs.Prelude.{◌≡◌, ℕ, [], ◌∷◌, IfOk, IfErr, IsTrue};
+ghost use Rattle.std.specs.Prelude.{◌≡◌, [], ◌∷◌, IfOk, IfErr, IsTrue};
 ghost use Rattle.core_state.specs.fleet_rows.declared.settings.Ttls.{Ttls};
 ghost use Rattle.core_state.specs.log_pair.Pair.{disk_a, disk_b};
 ghost use Rattle.core_state.specs.core_spec.declared.event.Event.TheVariants.{Restart};
@@ -8,14 +8,14 @@ ghost use Rattle.core_state.specs.core_spec.History.{History};
 ghost use Rattle.core_state.specs.core_spec.Stands.{Stands};
 ghost use Rattle.core_state.specs.fleet_keeper.Keeper.{pair_of};
 ghost use Rattle.core_state.specs.queue_log.Queued.{queue_pair, queue_size};
-ghost use Rattle.core_opening.specs.declared.faults.FileName.{FileName};
-ghost use Rattle.core_opening.specs.declared.faults.OpenCoreFault.TheVariants.{QueueFault, Damaged};
+ghost use Rattle.core_opening.specs.declared.faults.OpenCoreFault.TheVariants.{QueueFault};
+ghost use Rattle.core_opening.specs.Call.{CoreOpens};
 ghost use Rattle.core_opening.specs.Filled.{IsFilled};
-ghost use Rattle.core_opening.specs.Opened.{found_queue, found_store, seen_queue, seen_store, FilesStand, DisksStand, QueueFaults, StoreFaults};
-ghost use Rattle.core_opening.specs.Opened.{MatchOpening, IsCoreDamage, disks_in, disks_after, IsQueueFault, IsStoreFault, AllAreUntouched, OpeningIsWithin};
+ghost use Rattle.core_opening.specs.Opened.{found_queue, found_store, seen_queue, seen_store, QueueFaults, StoreFaults};
+ghost use Rattle.core_opening.specs.Opened.{disks_in, disks_after, IsQueueFault, IsStoreFault, AllAreUntouched};
 ghost use Rattle.core_opening.specs.Opened.{QueueHolds, StoreHolds, IsLacking, CoreIsReady, IsMadeOf, MatchGathered, as_core, IsAtStart, CoreIsOpened};
-ghost use Rattle.core_opening.specs.Opened.{IsSameCore, fault_in, SameStore, QueueIsLater, WritesDone, MatchMended, CoreStandsForAll, HasLogs, IsUpCore};
-ghost use Rattle.core_opening.specs.Opened.{queue_as_read, HasWritten, KeepsRecords};
+ghost use Rattle.core_opening.specs.Opened.{IsSameCore, fault_in, SameStore, QueueIsLater, WritesDone, MatchMended};
+ghost use Rattle.core_opening.specs.Opened.{queue_as_read, HasWritten};
 ghost use Rattle.core_opening.specs.Replayed.{IsReading};
 
 use crate::faults::OpenCoreFault;
@@ -223,30 +223,7 @@ pub fn open_state<D: Disk + Drop>(
     alloc: Global,
     disks: Disks<D>,
 ) -> Result<CoreState<D, LogKeeper<D>>, (OpenCoreFault, Disks<D>)>
-    // The answer tells the records, the first damage, or that a Done has no room, byte for byte.
-    ensures told { IsTrue D.is_told → MatchOpening result (seen_queue D.Disk disks) (seen_store D.Disk disks) }
-    // Damaged files aren't opened. Files that stand for a history aren't damaged.
-    ensures undamaged { IsTrue D.is_told → IfOk result (λ c. (file : FileName) (at : ℕ)
-        → IsCoreDamage (seen_queue D.Disk disks) (seen_store D.Disk disks) file at → ⊥) }
-    ensures never_damaged { IsTrue D.is_told → (ttls : Ttls) (history : History)
-        → FilesStand ttls (D.seen disks.queue_a) (D.seen disks.queue_b) (D.seen disks.store_a) (D.seen disks.store_b) history
-        → IfErr result (λ e. (file : FileName) (at : ℕ) → e.0 ≡ Damaged file at → ⊥) }
-
-    // The core stands for each history that the records stand for, followed by the restart. It is up.
-    ensures stands { IfOk result (CoreStandsForAll D.Disk) }
-    ensures logs { IfOk result (HasLogs D.is_told D.seen) }
-    ensures up { IfOk result (IsUpCore D.seen D.may_leave) }
-    ensures events { IfOk result (λ c. c.events.list ≡ Restart ∷ []) }
-    ensures start { IfOk result (IsAtStart D.fault_count disks) }
-
-    // If each image stands for a history at the start, each stands for it at every moment within.
-    ensures any_moment { IsTrue D.is_told → (ttls : Ttls) (history : History) → DisksStand D.may_leave ttls disks history
-        → OpeningIsWithin D.Disk ttls disks (disks_after result) history }
-    ensures untouched { IfErr result (λ e. (e.0 ≡ QueueFault → ⊥) → AllAreUntouched D.Disk disks e.1) }
-    ensures kept { IsTrue D.is_told → IfErr result (λ e. KeepsRecords D.seen disks e.1) }
-
-    ensures queue_cause { QueueFaults D.Disk disks (disks_after result) (IsQueueFault result) }
-    ensures store_cause { StoreFaults D.Disk disks (disks_after result) (IsStoreFault result) }
+    ensures does { CoreOpens D.Disk result disks }
 {
     match gather(alloc, disks) {
         Err((fault, disks)) => Err((fault, disks)),

@@ -14,7 +14,7 @@ returns-in-Ok-clause-opened g c =
     let w = disk_sight d.is_told d.seen d.may_leave d.moment d.left_since d.fault_count in
     let disks = c.args.disks in
     let core = c.in-Ok.core in
-    let e = c.in-Ok.ensures in
+    let e = c.in-Ok.ensures.does in
     let stood : ForEachHistory w disks (λ ttls history. (core.tables.ttls ≡ ttls) × LogCoreStands d.is_told d.seen d.may_leave core history) = λ told ttls history files.
     e.stands ttls history (found_so ttls history (d.seen disks.queue_a) (d.seen disks.queue_b) (d.seen disks.store_a) (d.seen disks.store_b) files (found_queue core) (found_store core) (e.told told).0.queue_is (e.told told).0.store_is) in
     record {
@@ -46,7 +46,7 @@ returns-in-Err-clause-refused g c =
     let disks = c.args.disks in
     let after = c.in-Err.disks in
     let f = c.in-Err.fault in
-    let e = c.in-Err.ensures in
+    let e = c.in-Err.ensures.does in
     let queue = queue_files w disks in
     let store = store_files w disks in
     let is : IsUnopened w disks after (opening_status f) = record {

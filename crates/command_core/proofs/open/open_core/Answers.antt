@@ -1,13 +1,13 @@
 use Rattle.command_core.proofs.open.open_core.Goals as goal
 
-pub returns-in-Ok-clause-told : goal.returns-in-Ok-clause-told
-returns-in-Ok-clause-told g c = rw c.of_state.ensures c.in-Ok.ensures.told
-
-pub returns-in-Ok-clause-stands : goal.returns-in-Ok-clause-stands
-returns-in-Ok-clause-stands g c = rw c.of_state.ensures c.in-Ok.ensures.stands
-
-pub returns-in-Ok-clause-any_moment : goal.returns-in-Ok-clause-any_moment
-returns-in-Ok-clause-any_moment g c = rw c.of_state.ensures c.in-Ok.ensures.any_moment
+pub of_state-requires-clause-sound : goal.of_state-requires-clause-sound
+of_state-requires-clause-sound g c = c.in-Ok.ensures.does.up.sound
 
 pub of_state-requires-clause-spelling : goal.of_state-requires-clause-spelling
-of_state-requires-clause-spelling g c = record { tables = c.in-Ok.ensures.up.tables; dead = c.in-Ok.ensures.up.dead }
+of_state-requires-clause-spelling g c = record { tables = c.in-Ok.ensures.does.up.tables; dead = c.in-Ok.ensures.does.up.dead }
+
+pub returns-in-Ok : goal.returns-in-Ok
+returns-in-Ok g c = record { does = rw c.of_state.ensures c.in-Ok.ensures.does }
+
+pub returns-in-Err : goal.returns-in-Err
+returns-in-Err g c = record { does = c.in-Err.ensures.does }

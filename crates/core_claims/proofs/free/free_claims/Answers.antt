@@ -70,7 +70,20 @@ entries-preserved g c =
           })
     ]
 
-pub returns-clause-none : goal.returns-clause-none
-returns-clause-none g c r =
+pub returns : goal.returns
+returns g c =
+    let freed = c.entries.invariant.freed in
     let done : length c.entries.core.pending ≡ c.entries.i = omega (arith, c.entries.invariant.places, c.entries.auto.i-end, c.entries-test.false) in
-    none_claimed c.entries.core.pending (none_is_left c.entries.core.pending c.entries.i done c.entries.invariant.passed) r
+    record {
+      does = record {
+        releases = freed.releases;
+        none = none_claimed c.entries.core.pending (none_is_left c.entries.core.pending c.entries.i done c.entries.invariant.passed);
+        stands = freed.stands;
+        sound = freed.sound;
+        submitted = freed.submitted;
+        others = freed.others;
+        queue = freed.queue;
+        store = freed.store;
+        last = freed.last;
+      };
+    }

@@ -13,18 +13,18 @@ pub turns-init : goal.turns-init
 turns-init g c =
     let w : Sight g.row.D.Denot g.row.K.Denot = sight g.D.Disk.is_told g.D.Disk.seen g.D.Disk.may_leave g.D.Disk.moment g.D.Disk.left_since g.D.Disk.fault_count g.K.Keeper.is_told g.K.Keeper.kept g.K.Keeper.images g.K.Keeper.moment g.K.Keeper.images_since g.K.Keeper.down g.K.Keeper.size g.K.Keeper.fault_count g.K.Keeper.opened g.K.Keeper.is_within in
     let says : FreeSays w c.args.core.now c.free_claims.new.self = record {
-      releases = c.free_claims.ensures.releases;
-      stands = c.free_claims.ensures.stands;
-      submitted = c.free_claims.ensures.submitted;
-      others = c.free_claims.ensures.others;
-      queue = c.free_claims.ensures.queue;
-      store = c.free_claims.ensures.store;
+      releases = c.free_claims.ensures.does.releases;
+      stands = c.free_claims.ensures.does.stands;
+      submitted = c.free_claims.ensures.does.submitted;
+      others = c.free_claims.ensures.does.others;
+      queue = c.free_claims.ensures.does.queue;
+      store = c.free_claims.ensures.does.store;
     } in
     record {
       worked = free_claims_works w c.args.core.now c.free_claims.new.self says;
       up = free_claims_down w c.args.core.now c.free_claims.new.self says ∙ (sym c.is_down.ensures ∙ c.if-is_down.false);
-      calm = counts_still g.D.Disk.fault_count c.args.core.now.queue c.free_claims.new.self.queue c.free_claims.ensures.queue (λ f. f);
-      unclaimed = freed_claims_none w c.args.core.now c.free_claims.new.self c.free_claims.ensures.none c.free_claims.ensures.stands;
+      calm = counts_still g.D.Disk.fault_count c.args.core.now.queue c.free_claims.new.self.queue c.free_claims.ensures.does.queue (λ f. f);
+      unclaimed = freed_claims_none w c.args.core.now c.free_claims.new.self c.free_claims.ensures.does.none c.free_claims.ensures.does.stands;
     }
 
 pub returns-then-is_down-clause-worked : goal.returns-then-is_down-clause-worked

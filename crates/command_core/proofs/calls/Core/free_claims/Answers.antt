@@ -1,11 +1,11 @@
 use Rattle.core_submits.proofs.of_core_state.Spellings.{spelling_stays}
 use Rattle.command_core.proofs.calls.Core.free_claims.Goals as goal
 
-pub returns-clause-submitted : goal.returns-clause-submitted
-returns-clause-submitted g c = rw (← c.self.view_is) c.free_claims.ensures.submitted
+pub returns : goal.returns
+returns g c = record { does = rw (← c.self.view_is) c.free_claims.ensures.does }
 
 pub invariant_of-self : goal.invariant_of-self
 invariant_of-self g c = record {
-  sound = c.free_claims.ensures.sound;
-  spelling = spelling_stays c.self.inside.state c.free_claims.new.core c.free_claims.ensures.others c.self.invariant.spelling;
+  sound = c.free_claims.ensures.does.sound;
+  spelling = spelling_stays c.self.inside.state c.free_claims.new.core c.free_claims.ensures.does.others c.self.invariant.spelling;
 }
