@@ -1,12 +1,21 @@
 -- The laws of sequences of calls.
-use Rattle.std.specs.Prelude.{◌≡◌, Bool, true, false, ◌++◌}
+use Rattle.std.specs.Prelude.{◌≡◌, ℕ, ◌+◌, ◌≤◌, Bool, true, false, ◌++◌}
 use Rattle.core_state.specs.core_spec.History.{History}
 use Rattle.core_state.specs.declared.state.CoreState.{CoreState}
 use Rattle.core_state.specs.Moments.{StandsAmid}
 use Rattle.core_state.specs.StandsFor.{AreOfOneRecord, EachImage, history_of}
+use Rattle.core_state.specs.Tallies.{tally_of}
 use Rattle.core_course.specs.Sight.{Sight, Stood, is_down}
-use Rattle.core_course.specs.Courses.{SomeMay, Course, TimeGoesOn, NoMomentIsLeftOut, Passed}
+use Rattle.core_course.specs.Courses.{AreOfOneCall, SomeMay, Course, TimeGoesOn, NoMomentIsLeftOut, Passed}
 use Rattle.core_course.specs.Work.{Worked}
+
+-- the number of commands that came in, took effect or were discarded
+abbrev pub moved : History → ℕ
+moved events = let tally = tally_of events in tally.received + tally.applied + tally.discarded
+
+-- One call takes in at most one command, or lets at most one take effect, or discards at most one.
+abbrev pub CallsMoveOne : Type 0
+CallsMoveOne = (events : History) → AreOfOneCall events → moved events ≤ 1
 
 abbrev pub StretchesJoin : {D K : Type 0} → Sight D K → Type 0
 StretchesJoin {D} {K} w = (first second : History) (a b c : CoreState D K) → Passed w first a b → Passed w second b c → Passed w (second ++ first) a c

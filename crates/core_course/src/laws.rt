@@ -1,9 +1,14 @@
 //! The laws of sequences of calls. Each is the contract of a function with an empty body.
 ghost use Rattle.core_course.specs.Sight.{sight_of};
-ghost use Rattle.core_course.specs.Laws.{StretchesJoin, CoursesJoin, WorkGoesOn, CoursesStand, CoursesTakeTime, CoursesAreWhole, LastImagesStand};
+ghost use Rattle.core_course.specs.Laws.{CallsMoveOne, StretchesJoin, CoursesJoin, WorkGoesOn, CoursesStand, CoursesTakeTime, CoursesAreWhole, LastImagesStand};
 
 use core_state::Keeper;
 use fleet_ports::Disk;
+
+/// One call takes in at most one command, or lets at most one take effect, or discards at most one. So no batch is one call.
+pub fn calls_move_one()
+    ensures { CallsMoveOne }
+{}
 
 /// Two sequences in a row, seen from the first core to the last, are one sequence.
 pub fn stretches_join<D: Disk + Drop, K: Keeper + Drop>()

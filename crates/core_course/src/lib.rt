@@ -8,15 +8,15 @@
 //! The main laws: sequences join ([`stretches_join`], [`courses_join`]), and their calls leave no moment out
 //! ([`courses_are_whole`]). After a sequence, the images of the disks stand for a part of its events ([`last_images_stand`]).
 //!
-//! Further laws: a core goes on standing for its history ([`courses_stand`]), and time goes back in no file
-//! ([`courses_take_time`]).
+//! Further laws: one call moves at most one command ([`calls_move_one`]). A core goes on standing for its history
+//! ([`courses_stand`]), and time goes back in no file ([`courses_take_time`]).
 #![tactic(auto)]
 
 mod laws;
 
 pub use laws::{
-    courses_are_whole, courses_join, courses_stand, courses_take_time, last_images_stand,
-    stretches_join, work_goes_on,
+    calls_move_one, courses_are_whole, courses_join, courses_stand, courses_take_time,
+    last_images_stand, stretches_join, work_goes_on,
 };
 
 // Re-exports for the crates above.
