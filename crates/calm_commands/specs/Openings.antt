@@ -12,7 +12,7 @@ use Rattle.command_core.specs.core_spec.History.{History}
 use Rattle.command_core.specs.core_opening.declared.faults.FileName.{FileName}
 use Rattle.command_core.specs.core_opening.declared.faults.OpenCoreFault.{OpenCoreFault}
 use Rattle.command_core.specs.core_opening.declared.faults.OpenCoreFault.TheVariants as fault
-use Rattle.command_core.specs.core_opening.Opened.{LogCore, found_queue, found_store, IsFound, HadRoom, GoesOn, LacksRoom, IsCoreDamage, LogCoreStands, IsUpCore, IsAtStart, StandsForAll, HasLogs, disks_in, FilesStand, DisksStand, AreUntouched, KeepsRecords, OpensWithin}
+use Rattle.command_core.specs.core_opening.Opened.{LogCore, found_queue, found_store, IsFound, HadRoom, GoesOn, LacksRoom, IsCoreDamage, LogCoreStands, IsUpCore, IsAtStart, StandsForAll, HasLogs, disks_in, FilesStand, DisksStand, AreUntouched, KeepsRecords, KeepsImages, OpensWithin}
 use Rattle.calm_commands.specs.declared.status.Status.{Status}
 use Rattle.calm_commands.specs.declared.status.Status.TheVariants as status
 
@@ -65,6 +65,10 @@ ForEachImages w disks P = IsTrue w.tells → (ttls : Ttls) (history : History) �
 abbrev pub OpensSo : {D : Type 0} → DiskSight D → Disks D → Disks D → Ttls → History → Type 0
 OpensSo w disks after ttls history = OpensWithin w.seen w.may_leave w.moment w.left_since ttls disks after history
 
+-- the same, whatever the images were
+abbrev pub KeepsAllImages : {D : Type 0} → DiskSight D → Disks D → Disks D → Type 0
+KeepsAllImages w disks after = IsTrue w.tells → KeepsImages w.seen w.may_leave w.moment w.left_since disks after
+
 -- the fault counts of the queue's disks
 abbrev pub QueueDisksCount : {D : Type 0} → DiskSight D → Disks D → Disks D → Type 0 → Type 0
 QueueDisksCount w disks after Fault = PairCounts (w.faults disks.queue_a) (w.faults after.queue_a) (w.faults disks.queue_b) (w.faults after.queue_b) Fault
@@ -97,6 +101,8 @@ pub record OpensTo {D : Type 0} (w : DiskSight D) (disks : Disks D) (core : LogC
   pub events : core.events.list ≡ Restart ∷ []
   pub start : IsAtStart w.faults disks core
   pub any_moment : ForEachImages w disks (OpensSo w disks (disks_in core))
+  -- at every moment within, each image is one of before, or has the records as they were read, or these and the Done that lacked
+  pub images : KeepsAllImages w disks (disks_in core)
   pub leaves : ForEachHistory w disks (λ ttls history. DisksStand w.may_leave ttls (disks_in core) (Restart ∷ history))
   -- what is read is one of the images, so a history that each of them stands for is one of these
   pub read : ForEachImages w disks (StandAsRead w disks)
@@ -154,5 +160,6 @@ pub record IsUnopened {D : Type 0} (w : DiskSight D) (disks after : Disks D) (an
   pub untouched : (answer ≡ status.QueueFault → ⊥) → AreUntouched w.seen w.may_leave w.moment w.left_since disks after
   -- whatever the images were, the records are those of before, as they are read, or these and the Done that the queue lacked
   pub kept : IsTrue w.tells → KeepsRecords w.seen disks after
+  pub images : KeepsAllImages w disks after
   pub queue_counts : QueueDisksCount w disks after (answer ≡ status.QueueFault)
   pub store_counts : StoreDisksCount w disks after (answer ≡ status.StoreFault)

@@ -1,5 +1,5 @@
 -- One call moves at most one command.
-use Rattle.std.proofs.Common.{◌≡◌, ℕ, ◌≤◌, [], ◌∷◌, arith, refl, sym, subst}
+use Rattle.std.proofs.Common.{◌≡◌, ◌≤◌, [], ◌∷◌, arith, refl, sym, subst}
 use Rattle.core_state.specs.core_spec.declared.event.Event.{Event}
 use Rattle.core_state.specs.core_spec.declared.event.Event.TheVariants.{Submit, Claim, Release, Apply, Supersede, Fail, Discard, Sweep, Restart}
 use Rattle.core_state.specs.core_spec.History.{History}

@@ -1,7 +1,5 @@
 -- The events that an answer adds are those of one call.
 use Rattle.std.proofs.Common.{ℕ, Bool, true, false, [], ◌∷◌, ◌++◌, refl}
-use Rattle.command_decode.specs.fleet_rows.declared.command.Command.{Command}
-use Rattle.command_decode.specs.fleet_rows.declared.settings.Kinds.{Kinds}
 use Rattle.core_course.specs.Courses.{OnlySupersedes, OnlyReleases, AreOfOneCall, no_event, one_event, gives_up, supersedes, claims, releases}
 use Rattle.command_core.specs.core_spec.declared.event.Event.TheVariants.{Submit, Claim, Release, Apply, Supersede, Fail, Discard, Sweep, Restart}
 use Rattle.command_core.specs.core_spec.History.{History}

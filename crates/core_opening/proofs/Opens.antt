@@ -34,7 +34,7 @@ use Rattle.core_opening.specs.declared.faults.FileName.{FileName}
 use Rattle.core_opening.specs.declared.faults.FileName.TheVariants.{QueueA, QueueB, StoreA, StoreB}
 use Rattle.core_opening.specs.declared.faults.OpenCoreFault.{OpenCoreFault}
 use Rattle.core_opening.specs.declared.faults.OpenCoreFault.TheVariants.{QueueFault, StoreFault, Damaged, Memory, Spent}
-use Rattle.core_opening.specs.Opened.{LogCore, found_queue, found_store, IsQueueDamageOf, IsCoreDamage, IsFound, HasSize, HasNoRoom, HadRoom, LacksDone, TellsMissing, MatchOpening, MatchGathered, MatchMended, IsQueueFault, IsStoreFault, IsSameCore, AreUntouched, DisksStand, OpensWithin, CountsIn, GoesOn, disks_in, disks_after, SameStore, IsAtStart, queue_as_read, HasWritten, KeepsRecords}
+use Rattle.core_opening.specs.Opened.{LogCore, found_queue, found_store, IsQueueDamageOf, IsCoreDamage, IsFound, HasSize, HasNoRoom, HadRoom, LacksDone, TellsMissing, MatchOpening, MatchGathered, MatchMended, IsQueueFault, IsStoreFault, IsSameCore, AreUntouched, DisksStand, OpensWithin, CountsIn, GoesOn, disks_in, disks_after, SameStore, IsAtStart, queue_as_read, HasWritten, IsReadOrMended, KeepsRecords, KeepsImages}
 
 -- ---- logs that are found aren't damaged
 
@@ -185,10 +185,10 @@ pub mended_whole : {D : Type 0} (result : Result (LogCore D) (OpenCoreFault × D
     → IfErr result (λ e. (file : FileName) (at : ℕ) → e.0 ≡ Damaged file at → ⊥)
 mended_whole (Ok core) missing size room = tt
 mended_whole (Err (Damaged place offset, disks)) missing size room = absurd room
-mended_whole (Err (QueueFault, disks)) missing size room = λ file at is. cc
+mended_whole (Err (QueueFault, disks)) missing size room = λ file at is. (let apart : QueueFault ≡ Damaged file at = is in cc)
 mended_whole (Err (StoreFault, disks)) missing size room = absurd room
 mended_whole (Err (Memory, disks)) missing size room = absurd room
-mended_whole (Err (Spent, disks)) missing size room = λ file at is. cc
+mended_whole (Err (Spent, disks)) missing size room = λ file at is. (let apart : Spent ≡ Damaged file at = is in cc)
 
 -- nor a fault of the store
 mended_store_calm : {D : Type 0} (result : Result (LogCore D) (OpenCoreFault × Disks D)) (missing : Option ℕ) (size : ℕ) → MatchMended result missing size → IsStoreFault result → ⊥
@@ -202,8 +202,8 @@ mended_store_calm (Err (Spent, disks)) missing size room fault = fault
 pub mended_store : {D : Type 0} (count : D → ℕ) (result : Result (LogCore D) (OpenCoreFault × Disks D)) (missing : Option ℕ) (size : ℕ) (state : LogCore D) (a b : ℕ) → MatchMended result missing size
     → SameStore state (disks_after result) → PairCounts a (count (disk_a (pair_of state.store))) b (count (disk_b (pair_of state.store))) ⊥
     → PairCounts a (count (disks_after result).store_a) b (count (disks_after result).store_b) (IsStoreFault result)
-mended_store count result missing size state a b room store counts =
-    let same = counts.calm (λ f. f) in
+mended_store count result missing size state a b room store risen =
+    let same = risen.calm (λ f. f) in
     calm_counts a (count (disks_after result).store_a) b (count (disks_after result).store_b) (IsStoreFault result) (mended_store_calm result missing size room) (ap count store.store_a ∙ same.0, ap count store.store_b ∙ same.1)
 
 pub mended_queue : (a a1 a2 b b1 b2 : ℕ) (Fault : Type 0) → PairCounts a a1 b b1 ⊥ → PairCounts a1 a2 b1 b2 Fault → PairCounts a a2 b b2 Fault
@@ -215,8 +215,8 @@ start_stays : {D : Type 0} (count : D → ℕ) (disks : Disks D) (old new : LogC
 start_stays {D} count disks old new start same = record {
   opened_a = same.opened_a ∙ start.opened_a;
   opened_b = same.opened_b ∙ start.opened_b;
-  faults = ap faults_of same.store ∙ start.faults;
-  opened = ap opened_of same.store ∙ start.opened;
+  faults = ap (λ (k : LogKeeper D). faults_of k) same.store ∙ start.faults;
+  opened = ap (λ (k : LogKeeper D). opened_of k) same.store ∙ start.opened;
   within = subst (λ (k : LogKeeper D). IsWithin count k (0, count disks.store_a, count disks.store_b)) (sym same.store) start.within;
 }
 
@@ -243,16 +243,13 @@ written_more missing r records read is (inr more) = inr (r, is, more)
 module _ {D : Type 0} (seen : D → List ℕ) (disks : Disks D) (state : LogCore D) (missing : Option ℕ)
     (found : IsFound (pair_image (image_of (seen disks.queue_a)) (image_of (seen disks.queue_b))) (pair_image (image_of (seen disks.store_a)) (image_of (seen disks.store_b))) (found_queue state) (found_store state))
     (tells : TellsMissing missing (found_queue state) (found_store state)) where
-  kept_queue : (read : Option (List QueueRecord)) → HasWritten missing (found_queue state) read
-      → (read ≡ queue_as_read seen disks)
-      ⊎ ((queued : List QueueRecord) × (kept : List StoreRecord) × (r : ℕ) × (queue_as_read seen disks ≡ Some queued)
-      × (records_at store_at (seen disks.store_a) (seen disks.store_b) ≡ Some kept) × LacksDone queued kept r × (read ≡ Some (queued ++ Done r ∷ [])))
+  pub kept_queue : (read : Option (List QueueRecord)) → HasWritten missing (found_queue state) read → IsReadOrMended seen disks read
   kept_queue read (inl is) = inl (is ∙ sym found.queue_is)
   kept_queue read (inr (r, is, more)) =
       inr (found_queue state, found_store state, r, found.queue_is, found.store_is, subst (λ (m : Option ℕ). TellsMissing m (found_queue state) (found_store state)) is tells, more)
 
   pub kept_mended : (result : Result (LogCore D) (OpenCoreFault × Disks D)) → seen (disk_a (pair_of state.store)) ≡ seen disks.store_a → seen (disk_b (pair_of state.store)) ≡ seen disks.store_b
-      → SameStore state (disks_after result) → IfErr result (λ e. HasWritten missing (found_queue state) (queue_as_read seen e.1)) → IfErr result (λ e. KeepsRecords seen disks e.1)
+      → SameStore state (disks_after result) → HasWritten missing (found_queue state) (queue_as_read seen (disks_after result)) → IfErr result (λ e. KeepsRecords seen disks e.1)
   kept_mended (Ok core) same_a same_b store written = tt
   kept_mended (Err e) same_a same_b store written =
       record { store_a = ap seen store.store_a ∙ same_a; store_b = ap seen store.store_b ∙ same_b; queue = kept_queue (queue_as_read seen e.1) written }
@@ -274,6 +271,17 @@ module _ {D : Type 0} (seen : D → List ℕ) (may_leave : D → List ℕ → Ty
   }
 
 -- ---- moments
+
+pub images_untouched : {D : Type 0} (seen : D → List ℕ) (may_leave : D → List ℕ → Type 0) (moment : D → ℕ) (left_since : D → ℕ → List ℕ → Type 0) (only_now : (d : D) (c : List ℕ) → left_since d (moment d) c → may_leave d c)
+    (old new : Disks D) → AreUntouched seen may_leave moment left_since old new → KeepsImages seen may_leave moment left_since old new
+images_untouched seen may_leave moment left_since only_now old new same = record {
+  read = new;
+  reading = same;
+  store_a = refl;
+  store_b = refl;
+  writing = λ qa qb la lb. inl (same.queue_a.images qa (only_now new.queue_a qa la), same.queue_b.images qb (only_now new.queue_b qb lb));
+  later = (omega arith, omega arith);
+}
 
 module _ {D : Type 0} (seen : D → List ℕ) (may_leave : D → List ℕ → Type 0) (moment : D → ℕ) (left_since : D → ℕ → List ℕ → Type 0) (only_now : (d : D) (c : List ℕ) → left_since d (moment d) c → may_leave d c)
     (ttls : Ttls) (history : History) (old : Disks D) (all : DisksStand may_leave ttls old history) where

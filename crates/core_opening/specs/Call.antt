@@ -9,7 +9,7 @@ use Rattle.core_opening.specs.declared.faults.FileName.{FileName}
 use Rattle.core_opening.specs.declared.faults.OpenCoreFault.{OpenCoreFault}
 use Rattle.core_opening.specs.declared.faults.OpenCoreFault.TheVariants.{QueueFault, Damaged}
 use Rattle.core_opening.specs.Opened.{LogCore, seen_queue, seen_store, FilesStand, DisksStand, MatchOpening, IsCoreDamage, CoreStandsForAll, HasLogs, IsUpCore}
-use Rattle.core_opening.specs.Opened.{disks_after, QueueFaults, StoreFaults, IsQueueFault, IsStoreFault, AllAreUntouched, KeepsRecords, OpeningIsWithin, IsAtStart}
+use Rattle.core_opening.specs.Opened.{disks_after, QueueFaults, StoreFaults, IsQueueFault, IsStoreFault, AllAreUntouched, KeepsRecords, AllImagesAreKept, OpeningIsWithin, IsAtStart}
 
 pub record CoreOpens {D : Type 0} (d : disk.Ghosts D) (result : Result (LogCore D) (OpenCoreFault × Disks D)) (disks : Disks D) : Type 0 where
   -- The answer tells the records, the first damage, or that a Done has no room, byte for byte.
@@ -32,5 +32,7 @@ pub record CoreOpens {D : Type 0} (d : disk.Ghosts D) (result : Result (LogCore 
   pub untouched : IfErr result (λ e. (e.0 ≡ QueueFault → ⊥) → AllAreUntouched d disks e.1)
   -- Whatever the images were: after an error the records are those of before, as they are read, or these and the Done that lacked.
   pub kept : IsTrue d.is_told → IfErr result (λ e. KeepsRecords d.seen disks e.1)
+  -- At every moment within, each image is one of the start, or has the records as they were read, or these and that Done.
+  pub images : IsTrue d.is_told → AllImagesAreKept d disks (disks_after result)
   pub queue_cause : QueueFaults d disks (disks_after result) (IsQueueFault result)
   pub store_cause : StoreFaults d disks (disks_after result) (IsStoreFault result)

@@ -231,17 +231,36 @@ queue_as_read seen disks = records_at queue_at (seen disks.queue_a) (seen disks.
 abbrev pub HasWritten : Option ℕ → List QueueRecord → Option (List QueueRecord) → Type 0
 HasWritten missing records read = (read ≡ Some records) ⊎ ((r : ℕ) × (missing ≡ Some r) × (read ≡ Some (records ++ Done r ∷ [])))
 
+-- these are the records of the queue as it was read, or these and the Done that it lacked
+abbrev pub IsReadOrMended : {D : Type 0} → (D → List ℕ) → Disks D → Option (List QueueRecord) → Type 0
+IsReadOrMended seen old read =
+    (read ≡ queue_as_read seen old)
+    ⊎ ((queued : List QueueRecord) × (kept : List StoreRecord) × (r : ℕ) × (queue_as_read seen old ≡ Some queued)
+    × (records_at store_at (seen old.store_a) (seen old.store_b) ≡ Some kept) × LacksDone queued kept r × (read ≡ Some (queued ++ Done r ∷ [])))
+
 -- Whatever the images are: as they are read, the store's files stay, and the queue has the records of before, or these and the
 -- Done that it lacked.
 pub record KeepsRecords {D : Type 0} (seen : D → List ℕ) (old new : Disks D) : Type 0 where
   pub store_a : seen new.store_a ≡ seen old.store_a
   pub store_b : seen new.store_b ≡ seen old.store_b
-  pub queue : (queue_as_read seen new ≡ queue_as_read seen old)
-      ⊎ ((queued : List QueueRecord) × (kept : List StoreRecord) × (r : ℕ) × (queue_as_read seen old ≡ Some queued)
-      × (records_at store_at (seen old.store_a) (seen old.store_b) ≡ Some kept) × LacksDone queued kept r
-      × (queue_as_read seen new ≡ Some (queued ++ Done r ∷ [])))
+  pub queue : IsReadOrMended seen old (queue_as_read seen new)
 
 -- ---- at every moment within
+
+-- Whatever the images are: first the logs are read, which adds no image at any moment. At every moment since, each image of the
+-- queue's two disks is one of before, or has the records that were read, or these and the Done that lacked.
+pub record KeepsImages {D : Type 0} (seen : D → List ℕ) (may_leave : D → List ℕ → Type 0) (moment : D → ℕ) (left_since : D → ℕ → List ℕ → Type 0) (old new : Disks D) : Type 0 where
+  pub read : Disks D
+  pub reading : AreUntouched seen may_leave moment left_since old read
+  pub store_a : new.store_a ≡ read.store_a
+  pub store_b : new.store_b ≡ read.store_b
+  pub writing : (qa qb : List ℕ) → left_since new.queue_a (moment read.queue_a) qa → left_since new.queue_b (moment read.queue_b) qb
+      → (may_leave old.queue_a qa × may_leave old.queue_b qb) ⊎ IsReadOrMended seen old (records_at queue_at qa qb)
+  pub later : QueueIsLater moment read new
+
+-- the same, with the ghosts of the trait as one value
+abbrev pub AllImagesAreKept : {D : Type 0} → disk.Ghosts D → Disks D → Disks D → Type 0
+AllImagesAreKept d = KeepsImages d.seen d.may_leave d.moment d.left_since
 
 -- First the logs are read, which adds no image at any moment. Then the Done is written. At every moment since, each image of the
 -- queue's two disks stands for the history, together with each of the store's.
@@ -465,6 +484,11 @@ Writes may_leave moment left_since ttls old new history =
 -- the same, with the ghosts of the trait as one value
 abbrev pub WritesDone : {D : Type 0} → disk.Ghosts D → Ttls → Disks D → Disks D → History → Type 0
 WritesDone d = Writes d.may_leave d.moment d.left_since
+
+-- while the Done is written, each image of the queue's two disks has the records that were found, or these and the Done
+abbrev pub WritesOnly : {D : Type 0} → disk.Ghosts D → Option ℕ → List QueueRecord → Disks D → Disks D → Type 0
+WritesOnly d missing records old new =
+    (qa qb : List ℕ) → d.left_since new.queue_a (d.moment old.queue_a) qa → d.left_since new.queue_b (d.moment old.queue_b) qb → HasWritten missing records (records_at queue_at qa qb)
 
 abbrev pub MatchMended : {D : Type 0} → Result (LogCore D) (OpenCoreFault × Disks D) → Option ℕ → ℕ → Type 0
 MatchMended (Ok core) missing size = (r : ℕ) → missing ≡ Some r → HasNoRoom size → ⊥

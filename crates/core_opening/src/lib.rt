@@ -15,8 +15,8 @@
 //! - The core stands for each history and the restart (`stands`, `events`). Both logs have the records found, and the Done that
 //!   was missing (`logs`). The core is up, with its starting counts (`up`, `start`).
 //! - Only a missing Done is written, and nothing after a refusal except QueueFault (`untouched`). After a refusal the records are
-//!   as they were read, or the queue has that Done too, whatever the images were (`kept`). Faults are counted (`queue_cause`,
-//!   `store_cause`).
+//!   as they were read, or the queue has that Done too, whatever the images were (`kept`). So it is of each image at every moment
+//!   within that isn't one of the start (`images`). Faults are counted (`queue_cause`, `store_cause`).
 //!
 //! Costs: one pass over both logs. Changes move into the tables. Of the queue's payloads, those of pending and discarded commands
 //! are kept; a command that ended is dropped at the record that ends it. Of the rows only report texts are computed.

@@ -14,8 +14,7 @@ ghost use Rattle.core_opening.specs.Filled.{IsFilled};
 ghost use Rattle.core_opening.specs.Opened.{found_queue, found_store, seen_queue, seen_store, QueueFaults, StoreFaults};
 ghost use Rattle.core_opening.specs.Opened.{disks_in, disks_after, IsQueueFault, IsStoreFault, AllAreUntouched};
 ghost use Rattle.core_opening.specs.Opened.{QueueHolds, StoreHolds, IsLacking, CoreIsReady, IsMadeOf, MatchGathered, as_core, IsAtStart, CoreIsOpened};
-ghost use Rattle.core_opening.specs.Opened.{IsSameCore, fault_in, SameStore, QueueIsLater, WritesDone, MatchMended};
-ghost use Rattle.core_opening.specs.Opened.{queue_as_read, HasWritten};
+ghost use Rattle.core_opening.specs.Opened.{IsSameCore, fault_in, SameStore, QueueIsLater, WritesDone, WritesOnly, MatchMended};
 ghost use Rattle.core_opening.specs.Replayed.{IsReading};
 
 use crate::faults::OpenCoreFault;
@@ -199,7 +198,7 @@ fn mend<D: Disk + Drop>(
     ensures store { SameStore state (disks_after result) }
     ensures cause { QueueFaults D.Disk (disks_in state) (disks_after result) (IsQueueFault result) }
     ensures unwritten { IfErr result (λ e. (e.0 ≡ QueueFault → ⊥) → e.1 ≡ disks_in state) }
-    ensures kept { IsTrue D.is_told → IfErr result (λ e. HasWritten missing (found_queue state) (queue_as_read D.seen e.1)) }
+    ensures within { IsTrue D.is_told → WritesOnly D.Disk missing (found_queue state) (disks_in state) (disks_after result) }
 {
     let mut state = state;
     let receipt = match missing {

@@ -30,6 +30,7 @@ returns-in-Ok-clause-opened g c =
       events = e.events;
       start = e.start;
       any_moment = λ told. e.any_moment told;
+      images = e.images;
       leaves = λ told ttls history files. (let on = stood told ttls history files in opened_leaves d.is_told d.seen d.may_leave core e.up e.events ttls history on.0 on.1);
       read = λ told ttls history all.
           all (d.seen disks.queue_a) (d.seen disks.queue_b) (d.seen disks.store_a) (d.seen disks.store_b)
@@ -62,6 +63,7 @@ returns-in-Err-clause-refused g c =
       leaves = λ told ttls history all. leaves_of d.seen d.may_leave d.moment d.left_since m.counts_now ttls history disks after (e.any_moment told ttls history all);
       untouched = λ other. e.untouched (λ queue. other (ap opening_status queue));
       kept = e.kept;
+      images = e.images;
       queue_counts = queue_counted after f (d.fault_count disks.queue_a) (d.fault_count after.queue_a) (d.fault_count disks.queue_b) (d.fault_count after.queue_b) e.queue_cause;
       store_counts = store_counted after f (d.fault_count disks.store_a) (d.fault_count after.store_a) (d.fault_count disks.store_b) (d.fault_count after.store_b) e.store_cause;
     } in

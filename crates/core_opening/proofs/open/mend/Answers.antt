@@ -1,4 +1,4 @@
-use Rattle.std.proofs.Common.{◌≡◌, ◌^◌, ◌<◌, ◌≤◌, List, [], ◌∷◌, ◌++◌, Option, Some, Err, IsTrue, refl, sym, ap, subst, ◌∙◌, arith, rules}
+use Rattle.std.proofs.Common.{◌≡◌, inl, ◌^◌, ◌<◌, ◌≤◌, List, [], ◌∷◌, ◌++◌, Option, Some, Err, IsTrue, refl, sym, ap, subst, ◌∙◌, arith, rules}
 use Rattle.core_state.specs.fleet_ports.declared.disk.Disks.{Disks}
 use Rattle.core_state.specs.log_pair.Open.{PairCounts}
 use Rattle.core_state.specs.log_pair.Pair.{disk_a, disk_b}
@@ -12,7 +12,7 @@ use Rattle.core_state.specs.fleet_keeper.Keeper.{pair_of}
 use Rattle.core_state.specs.queue_log.Queued.{queue_pair, queue_size, queued}
 use Rattle.core_state.specs.record_spec.declared.queue.QueueRecord.{QueueRecord}
 use Rattle.core_state.proofs.KnownImages.{queue_known, queue_since}
-use Rattle.core_opening.specs.Opened.{found_queue, IsQueueFault, queue_as_read, HasWritten}
+use Rattle.core_opening.specs.Opened.{found_queue, IsQueueFault}
 use Rattle.core_opening.proofs.Cores.{core_is_opened}
 use Rattle.core_opening.proofs.Opens.{written_more}
 use Rattle.core_opening.proofs.Mends.{waits_there, lifetimes, whole, done, reads_still, writes_on, put_ok, not_down, past, not_past, answered_room, answered_cause, answered_unwritten, time_goes_on}
@@ -142,19 +142,32 @@ returns-in-Some-fault_of-clause-later g c =
     let later = time_goes_on d.may_leave d.moment d.left_since _ state.queue c.put_record-answer.new.queue put.any_moment in
     subst (λ (x : Disks g.row.D.Denot). (d.moment (disk_a (queue_pair state.queue)) ≤ d.moment x.queue_a) × (d.moment (disk_b (queue_pair state.queue)) ≤ d.moment x.queue_b)) (sym c.disks_of.ensures) later
 
-pub returns-in-Some-fault_of-clause-kept : goal.returns-in-Some-fault_of-clause-kept
-returns-in-Some-fault_of-clause-kept g c told =
+pub returns-in-None-clause-within : goal.returns-in-None-clause-within
+returns-in-None-clause-within g c told qa qb la lb =
+    let m = g.met.D.Disk in
+    let now = queue_pair c.args.state.queue in
+    inl (c.requires.queue.images (records_at queue_at qa qb) (qa, qb, m.only_now (disk_a now) qa la, m.only_now (disk_b now) qb lb, refl))
+
+pub returns-in-None-fault_of-clause-within : goal.returns-in-None-fault_of-clause-within
+returns-in-None-fault_of-clause-within g c told qa qb la lb =
     let d = g.D.Disk in
     let m = g.met.D.Disk in
     let state = c.args.state in
     let r = c.in-Some.receipt in
     let small : r < 2 ^ 64 = search rules in
     let put = c.put_record-answer.ensures.put (queue.Done r) (small, c.done_bytes.ensures) in
-    let old = queue_pair state.queue in
-    let new = queue_pair c.put_record-answer.new.queue in
-    let later = time_goes_on d.may_leave d.moment d.left_since _ state.queue c.put_record-answer.new.queue put.any_moment in
-    let a = d.seen (disk_a new) in
-    let b = d.seen (disk_b new) in
-    let more = queue_since d.is_told d.seen d.may_leave d.moment d.left_since m.told m.told_since m.only_now state.queue (found_queue state) c.requires.queue.is c.put_record-answer.new.queue (queue.Done r) put.any_moment (records_at queue_at a b)
-    (a, b, m.counts_now (disk_a new) (d.moment (disk_a old)) a later.0 (m.seen_may_stay (disk_a new) told), m.counts_now (disk_b new) (d.moment (disk_b old)) b later.1 (m.seen_may_stay (disk_b new) told), refl) in
-    subst (λ (x : Disks g.row.D.Denot). HasWritten c.args.missing (found_queue state) (queue_as_read d.seen x)) (sym c.disks_of.ensures) (written_more c.args.missing r (found_queue state) (records_at queue_at a b) c.in-Some.is more)
+    let more = queue_since d.is_told d.seen d.may_leave d.moment d.left_since m.told m.told_since m.only_now state.queue (found_queue state) c.requires.queue.is c.put_record-answer.new.queue (queue.Done r) put.any_moment (records_at queue_at qa qb) (qa, qb, la, lb, refl) in
+    written_more c.args.missing r (found_queue state) (records_at queue_at qa qb) c.in-Some.is more
+
+pub returns-in-Some-fault_of-clause-within : goal.returns-in-Some-fault_of-clause-within
+returns-in-Some-fault_of-clause-within g c told qa qb la lb =
+    let d = g.D.Disk in
+    let m = g.met.D.Disk in
+    let state = c.args.state in
+    let r = c.in-Some.receipt in
+    let small : r < 2 ^ 64 = search rules in
+    let put = c.put_record-answer.ensures.put (queue.Done r) (small, c.done_bytes.ensures) in
+    let first = subst (λ (x : Disks g.row.D.Denot). d.left_since x.queue_a (d.moment (disk_a (queue_pair state.queue))) qa) c.disks_of.ensures la in
+    let second = subst (λ (x : Disks g.row.D.Denot). d.left_since x.queue_b (d.moment (disk_b (queue_pair state.queue))) qb) c.disks_of.ensures lb in
+    let more = queue_since d.is_told d.seen d.may_leave d.moment d.left_since m.told m.told_since m.only_now state.queue (found_queue state) c.requires.queue.is c.put_record-answer.new.queue (queue.Done r) put.any_moment (records_at queue_at qa qb) (qa, qb, first, second, refl) in
+    written_more c.args.missing r (found_queue state) (records_at queue_at qa qb) c.in-Some.is more

@@ -1,11 +1,13 @@
-use Rattle.std.proofs.Common.{subst}
+use Rattle.std.proofs.Common.{inr, subst}
 use Rattle.core_state.specs.log_spec.ImageOf.{image_of}
 use Rattle.core_state.specs.log_spec.PairImage.{pair_image}
 use Rattle.core_state.specs.log_pair.Pair.{disk_a, disk_b}
+use Rattle.core_state.specs.queue_records.Reading.{queue_at}
+use Rattle.core_state.specs.fleet_keeper.Pairs.{records_at}
 use Rattle.core_state.specs.queue_log.Queued.{queue_pair, queue_size}
 use Rattle.core_opening.specs.Opened.{found_queue, found_store, disks_in, disks_after, IsQueueFault}
 use Rattle.core_opening.proofs.Opens.{undamaged, stand_found, damage_of, gathered_opening, mended_opening, if_same, goes_on, if_any, if_map, opens_untouched, found_stand, store_first}
-use Rattle.core_opening.proofs.Opens.{mended_whole, mended_store, mended_queue, mended_start, mended_untouched, kept_untouched, kept_mended}
+use Rattle.core_opening.proofs.Opens.{mended_whole, mended_store, mended_queue, mended_start, mended_untouched, images_untouched, kept_untouched, kept_queue, kept_mended}
 use Rattle.core_opening.proofs.open.open_state.Goals as goal
 
 pub returns-in-Err : goal.returns-in-Err
@@ -32,6 +34,7 @@ returns-in-Err g c =
         any_moment = λ told ttls history all. opens_untouched d.seen d.may_leave d.moment d.left_since g.met.D.Disk.only_now ttls history disks all after gathered.untouched;
         untouched = λ other. gathered.untouched;
         kept = λ told. kept_untouched d.seen d.may_leave d.moment d.left_since disks after gathered.untouched;
+        images = λ told. images_untouched d.seen d.may_leave d.moment d.left_since g.met.D.Disk.only_now disks after gathered.untouched;
         queue_cause = gathered.queue_cause;
         store_cause = gathered.store_cause;
       };
@@ -82,7 +85,18 @@ returns-in-Ok g c =
         untouched = mended_untouched d.seen d.may_leave d.moment d.left_since disks (disks_in state) result gathered.untouched mended.unwritten;
         kept = λ told.
             let u = gathered.untouched in
-            kept_mended d.seen disks state missing (gathered.told told).0 gathered.ready.tells result u.store_a.same u.store_b.same mended.store (mended.kept told);
+            let a = d.seen new.queue_a in
+            let b = d.seen new.queue_b in
+            kept_mended d.seen disks state missing (gathered.told told).0 gathered.ready.tells result u.store_a.same u.store_b.same mended.store
+            (mended.within told a b (m.counts_now new.queue_a (d.moment (disk_a old)) a mended.later.0 (m.seen_may_stay new.queue_a told)) (m.counts_now new.queue_b (d.moment (disk_b old)) b mended.later.1 (m.seen_may_stay new.queue_b told)));
+        images = λ told. record {
+          read = disks_in state;
+          reading = gathered.untouched;
+          store_a = mended.store.store_a;
+          store_b = mended.store.store_b;
+          writing = λ qa qb la lb. inr (kept_queue d.seen disks state missing (gathered.told told).0 gathered.ready.tells (records_at queue_at qa qb) (mended.within told qa qb la lb));
+          later = mended.later;
+        };
         queue_cause = mended_queue (count disks.queue_a) (count (disk_a old)) (count new.queue_a) (count disks.queue_b) (count (disk_b old)) (count new.queue_b) (IsQueueFault result) gathered.queue_cause mended.cause;
         store_cause = mended_store count result missing (queue_size state.queue) state (count disks.store_a) (count disks.store_b) mended.room mended.store gathered.store_cause;
       };
