@@ -1,26 +1,32 @@
-//! Where threads sleep: each on a word of its own until its number is served, and all resting ones on one word until there is
-//! news.
+//! Where threads wait: at the door of the lock until it is free, and all resting ones on one word until there is news.
 //!
-//! Contracts and the rule of the table leave these words out, since a woken thread reads the table again. A thread announces its
-//! sleep and then checks once more. A waker first changes what is checked and then looks for sleepers. So no wake-up is lost.
+//! Contracts and the rule of the table leave these words out, since a thread that comes in reads the table. The door lets one
+//! thread in at a time, so it finds its number served. A thread that runs may come in before one that was woken earlier: else the
+//! lock would stand idle while a sleeper wakes up.
+//!
+//! A thread that is about to sleep first marks the word, and then checks once more. A waker first changes what is checked and
+//! then looks for the mark. So no wake-up is lost.
 ghost use Rattle.std.specs.Prelude.{◌≡◌, ◌≢◌};
 
-use std::array;
+use std::hint::spin_loop;
 use std::sync::Wait;
 use std::sync::atomic::AtomicU64;
 use std::sync::atomic::Ordering::SeqCst;
 
-// At most 66 numbers are out, so no two of them share a word.
-const PLACES: u64 = 128;
+// The states of the door.
+const FREE: u64 = 0;
 
-const AWAKE: u64 = 0;
+const TAKEN: u64 = 1;
 
-const ASLEEP: u64 = 1;
+// A thread is in, and others may sleep until it leaves.
+const AWAITED: u64 = 2;
+
+// How often a thread looks at the door before it sleeps: some microseconds in all, since a look takes less than a nanosecond.
+const LOOKS: u32 = 10_000;
 
 #[derive(Drop)]
 pub(crate) struct Waits {
-    // Whether the thread with this number, modulo 128, sleeps or is about to.
-    sleepers: [AtomicU64; 128],
+    door: AtomicU64,
     // The number of news so far, modulo 2^64.
     news: AtomicU64,
     // How many threads rest.
@@ -30,27 +36,46 @@ pub(crate) struct Waits {
 impl Waits {
     pub(crate) fn new() -> Waits {
         Waits {
-            sleepers: array::from_fn(|_| AtomicU64::new(AWAKE)),
+            door: AtomicU64::new(FREE),
             news: AtomicU64::new(0),
             resting: AtomicU64::new(0),
         }
     }
 
-    /// Announces that the thread with this number sleeps.
-    pub(crate) fn announce(&self, number: u64) {
-        self.sleepers[(number % PLACES) as usize].store(ASLEEP, SeqCst);
+    /// Waits until no other thread is in, and goes in.
+    pub(crate) fn enter<W: Wait>(&self, rt: &W) {
+        if self.enters_soon() {
+            return;
+        }
+        for _ in rt.forever() {
+            if self.door.swap(AWAITED, SeqCst) == FREE {
+                return;
+            }
+            self.door.park(rt, AWAITED as u32);
+        }
     }
 
-    /// Sleeps until the number is woken, unless it was woken since `announce`.
-    pub(crate) fn sleep<W: Wait>(&self, rt: &W, number: u64) {
-        self.sleepers[(number % PLACES) as usize].park(rt, ASLEEP as u32);
+    // Whether it could go in within some microseconds.
+    fn enters_soon(&self) -> bool {
+        for _ in 0..LOOKS {
+            if self.door.load(SeqCst) == FREE && self.takes() {
+                return true;
+            }
+            spin_loop();
+        }
+        false
     }
 
-    /// Wakes the thread with this number, if it sleeps.
-    pub(crate) fn wake(&self, number: u64) {
-        let sleeper = &self.sleepers[(number % PLACES) as usize];
-        if sleeper.swap(AWAKE, SeqCst) == ASLEEP {
-            sleeper.wake_one();
+    fn takes(&self) -> bool {
+        self.door
+            .compare_exchange(FREE, TAKEN, SeqCst, SeqCst)
+            .is_ok()
+    }
+
+    /// Leaves. It wakes one of the threads that sleep at the door.
+    pub(crate) fn leave(&self) {
+        if self.door.swap(FREE, SeqCst) == AWAITED {
+            self.door.wake_one();
         }
     }
 
