@@ -100,6 +100,38 @@ ask ["from","facts",["extract",[["function","sum","value"]]]]
 told sum too large 2.1.0.2
 ask ["from","facts",["extract",[["function","sum","value"]],["or",["=","certname","a"],["~","name","("]]]]
 told bad pattern 2.2.2.2
+fleet a sum at its greatest and one step above it
+facts {"certname":"a","values":{"a":9999999999999999999,"b":9999999999999999999,"c":9999999999999999999,"d":9999999999999999999,"e":9999999999999999999,"f":9999999999999999999,"g":9999999999999999999,"h":9999999999999999999,"i":9999999999999999999,"j":9999999999999999999,"k":9999999999999999999,"l":9999999999999999999,"m":9999999999999999999,"n":9999999999999999999,"o":9999999999999999999,"p":9999999999999999999,"q":9999999999999999999,"r":141183460469231748.687303715884105727,"s":0.000000000000000001},"producer_timestamp":"2024-05-01T10:00:00Z"}
+ask ["from","facts",["extract",[["function","sum","value"]],["not",["=","name","s"]]]]
+told [{"sum":170141183460469231731.687303715884105727}]
+ask ["from","facts",["extract",[["function","sum","value"]]]]
+told sum too large 2.1.0.2
+fleet a sum at its least and one step below it
+facts {"certname":"a","values":{"a":-9999999999999999999,"b":-9999999999999999999,"c":-9999999999999999999,"d":-9999999999999999999,"e":-9999999999999999999,"f":-9999999999999999999,"g":-9999999999999999999,"h":-9999999999999999999,"i":-9999999999999999999,"j":-9999999999999999999,"k":-9999999999999999999,"l":-9999999999999999999,"m":-9999999999999999999,"n":-9999999999999999999,"o":-9999999999999999999,"p":-9999999999999999999,"q":-9999999999999999999,"r":-141183460469231748.687303715884105728,"s":-0.000000000000000001},"producer_timestamp":"2024-05-01T10:00:00Z"}
+ask ["from","facts",["extract",[["function","sum","value"]],["not",["=","name","s"]]]]
+told [{"sum":-170141183460469231731.687303715884105728}]
+ask ["from","facts",["extract",[["function","sum","value"]]]]
+told sum too large 2.1.0.2
+fleet a prefix of a sum that is too large, though the rest brings it back
+facts {"certname":"a","values":{"a":9999999999999999999,"b":9999999999999999999,"c":9999999999999999999,"d":9999999999999999999,"e":9999999999999999999,"f":9999999999999999999,"g":9999999999999999999,"h":9999999999999999999,"i":9999999999999999999,"j":9999999999999999999,"k":9999999999999999999,"l":9999999999999999999,"m":9999999999999999999,"n":9999999999999999999,"o":9999999999999999999,"p":9999999999999999999,"q":9999999999999999999,"r":9999999999999999999,"s":-9999999999999999999,"t":-9999999999999999999},"producer_timestamp":"2024-05-01T10:00:00Z"}
+ask ["from","facts",["extract",[["function","sum","value"]]]]
+told sum too large 2.1.0.2
+fleet the same numbers with the small ones first
+facts {"certname":"a","values":{"a":-9999999999999999999,"b":-9999999999999999999,"c":9999999999999999999,"d":9999999999999999999,"e":9999999999999999999,"f":9999999999999999999,"g":9999999999999999999,"h":9999999999999999999,"i":9999999999999999999,"j":9999999999999999999,"k":9999999999999999999,"l":9999999999999999999,"m":9999999999999999999,"n":9999999999999999999,"o":9999999999999999999,"p":9999999999999999999,"q":9999999999999999999,"r":9999999999999999999,"s":9999999999999999999,"t":9999999999999999999},"producer_timestamp":"2024-05-01T10:00:00Z"}
+ask ["from","facts",["extract",[["function","sum","value"]]]]
+told [{"sum":159999999999999999984}]
+fleet of several sums that are too large the first, and an inner one before an outer one
+facts {"certname":"a","values":{"a":9999999999999999999,"b":9999999999999999999,"c":9999999999999999999,"d":9999999999999999999,"e":9999999999999999999,"f":9999999999999999999,"g":9999999999999999999,"h":9999999999999999999,"i":9999999999999999999,"j":9999999999999999999,"k":9999999999999999999,"l":9999999999999999999,"m":9999999999999999999,"n":9999999999999999999,"o":9999999999999999999,"p":9999999999999999999,"q":9999999999999999999,"r":9999999999999999999},"producer_timestamp":"2024-05-01T10:00:00Z"}
+ask ["from","facts",["or",["in","value",["from","facts",["extract",[["function","sum","value"]]]]],["in","value",["from","facts",["extract",[["function","sum","value"]]]]]]]
+told sum too large 2.1.2.2.1.0.2
+ask ["from","facts",["or",["in","value",["from","facts",["extract",[["function","sum","value"]],["=","name","a"]]]],["in","value",["from","facts",["extract",[["function","sum","value"]]]]]]]
+told sum too large 2.2.2.2.1.0.2
+ask ["from","facts",["extract",[["function","sum","value"]],["or",["=","certname","a"],["in","value",["from","facts",["extract",[["function","sum","value"]]]]]]]]
+told sum too large 2.2.2.2.2.1.0.2
+ask ["from","facts",["extract",[["function","sum","value"]],["or",["=","certname","a"],["in","value",["from","facts",["extract",[["function","sum","value"]],["=","name","a"]]]]]]]
+told sum too large 2.1.0.2
+ask ["from","facts",["in","value",["from","facts",["extract",[["function","sum","value"]],["or",["=","certname","a"],["in","value",["from","facts",["extract",[["function","sum","value"]]]]]]]]]]
+told sum too large 2.2.2.2.2.2.2.1.0.2
 fleet cells of each kind, compared and in order
 facts {"certname":"a","values":{"a":null,"b":"5","c":2,"d":1e400,"e":[1,"x"],"f":false,"g":2.0,"h":{"x":1},"i":true,"j":-1},"producer_timestamp":"2024-05-01T10:00:00Z"}
 ask ["from","facts",["extract","name",["=","value","5"]]]
