@@ -2,7 +2,8 @@
 //! inbox that they use.
 //!
 //! - Connections (`front_tcp`, `front_memory`): one over the loopback carries bytes both ways, and 127.0.0.2 doesn't lead to the
-//!   listener. Connections in memory come in their order, and a listed call fails.
+//!   listener. Connections in memory come in their order, and a listed call fails. A client that waits for each answer before it
+//!   sends the next request gets every answer.
 //! - Requests and answers (`http_front`): requests and faults, from connections that give one byte, seven or all bytes for each
 //!   call. The limits: 65,536 bytes and 64 lines of a head, a body of 16 MiB, 10,000 requests on one connection. Requests that
 //!   clients sent: `pypuppetdb` and Puppet's terminus. Answers byte for byte. A fault of the connection.
@@ -43,6 +44,8 @@ mod route_limits;
 mod routes;
 #[cfg(test)]
 mod served;
+#[cfg(test)]
+mod waiting;
 #[cfg(test)]
 mod wrong;
 
