@@ -8,5 +8,8 @@ pub mod ToldParts
 pub mod ToldFilters
 pub mod Spelt
 pub mod Placed
+pub mod FirstPlaces
+pub mod FirstParts
+pub mod FirstFaults
 -- What those above use of the crates below.
 pub use Rattle.json_machine.proofs as of_json_machine

@@ -1,8 +1,6 @@
 -- What is read is written by a form of the grammar: the parts that hold no query.
 use Rattle.std.proofs.Common.{◌≡◌, ◌∙◌, ℕ, ◌+◌, List, [], ◌∷◌, ◌++◌, Bool, true, false, Option, Some, None, Ok, Err, refl, ap, map, if◌then◌else◌}
 use Rattle.std.specs.Prelude.{codes}
-use Rattle.std.specs.Str.{bytes_eq}
-use Rattle.std.proofs.lemmas.Slice.Eq.{bytes_eq-Decides}
 use Rattle.json_machine.proofs.of_plain_laws.Lists.{one_text}
 use Rattle.json_machine.specs.text_spec.Json as json
 use Rattle.json_machine.specs.text_spec.Json.{Json, Items, no_items, item}

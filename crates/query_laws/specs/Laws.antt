@@ -3,10 +3,12 @@ use Rattle.std.specs.Prelude.{◌≡◌, ℕ, List, [], Some, None, Ok, Err, IsT
 use Rattle.json_machine.specs.text_spec.Json.{Json}
 use Rattle.query_spec.specs.fleet_rows.declared.row.Entity.{Entity}
 use Rattle.query_spec.specs.declared.parts.Name.{Name}
-use Rattle.query_spec.specs.Answer.{Answer, AnswerOf, entity_name, is_queryable, query}
+use Rattle.query_spec.specs.declared.sought.Sought.{Sought}
+use Rattle.query_spec.specs.Answer.{Answer, AnswerOf, entity_name, is_queryable, query, route}
 use Rattle.query_spec.specs.Ast.{Read, route_at}
-use Rattle.query_spec.specs.Check.{entity_named}
+use Rattle.query_spec.specs.Check.{entity_named, level_fault}
 use Rattle.query_spec.specs.Query.{Level}
+use Rattle.query_laws.specs.Faults.{IsFirst, HasFault}
 use Rattle.query_laws.specs.Grammar.{SpellsQuery, SpellsRoute, IsShallow}
 use Rattle.query_laws.specs.Places.{IsPlaceIn}
 
@@ -49,3 +51,11 @@ FaultsStandInTheValue = (v : Json) (p : List ℕ) → query v ≡ Err p → IsPl
 
 abbrev pub FaultsOfRoutesStandInTheValue : Type 0
 FaultsOfRoutesStandInTheValue = (e : Name) (v : Json) (p : List ℕ) → route_at e [] v ≡ Err p → IsPlaceIn v p
+
+-- of each kind the fault that is told is the first of all
+abbrev pub FirstFaultsAreTold : Type 0
+FirstFaultsAreTold = (k : Sought) (v : Json) (q : Level) → query v ≡ Ok q → IsFirst (level_fault k q) (HasFault k q)
+
+abbrev pub FirstFaultsOfRoutesAreTold : Type 0
+FirstFaultsOfRoutesAreTold =
+    (k : Sought) (e : Entity) (v : Json) (q : Level) → route e v ≡ Ok q → IsFirst (level_fault k q) (HasFault k q)

@@ -1,7 +1,7 @@
 //! The laws of queries.
 ghost use Rattle.query_laws.specs.Laws.{TextsHaveSomeAnswer, TextsHaveOneAnswer, EntitiesHaveNames, OnlyNamesNameEntities, QueriesAreSpelt};
 ghost use Rattle.query_laws.specs.Laws.{QueriesAreShallow, SpeltQueriesAreRead, RoutesAreSpelt, SpeltRoutesAreRead, FaultsStandInTheValue};
-ghost use Rattle.query_laws.specs.Laws.{FaultsOfRoutesStandInTheValue};
+ghost use Rattle.query_laws.specs.Laws.{FaultsOfRoutesStandInTheValue, FirstFaultsAreTold, FirstFaultsOfRoutesAreTold};
 
 /// A text has exactly one answer: a query, or one refusal with its position. This holds for every way of reading the JSON value.
 pub fn a_text_has_one_answer()
@@ -33,4 +33,10 @@ pub fn routes_are_asked_what_the_grammar_spells()
 pub fn faults_stand_in_the_value()
     ensures query { FaultsStandInTheValue }
     ensures route { FaultsOfRoutesStandInTheValue }
+{}
+
+/// Of each kind the fault that is told is the first in preorder: an unknown entity, an unknown field, a bad operand.
+pub fn the_first_fault_is_told()
+    ensures query { FirstFaultsAreTold }
+    ensures route { FirstFaultsOfRoutesAreTold }
 {}
