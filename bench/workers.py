@@ -1,5 +1,5 @@
-"""Commands a second by the number of workers: catalogs of 160 kB on a disk in memory, where decoding is the cost, and small facts on a
-disk, where its syncs are.
+"""Commands a second by the number of workers: catalogs of 160 kB on a disk in memory, where decoding is the cost, facts of 10 kB there,
+where the workers' lock is, and small facts on a disk, where its syncs are.
 
 Usage: workers.py PROGRAM FOLDER [MEMORY]
 PROGRAM is the built program, crates/puppetdb_server/out/puppetdb_server. FOLDER is one on the disk to be timed; MEMORY is one on a disk
@@ -90,7 +90,7 @@ def once(program, where, source, workers, count):
         rows = run.stdout.read().decode()
         if run.returncode != 0 or rows != runs.summary(count):
             sys.exit(f"the run printed {rows}")
-        return taken, last - first
+        return taken, max(last - first, 0.001)
     finally:
         shutil.rmtree(folder)
 
@@ -116,7 +116,8 @@ def main():
     program = os.path.abspath(sys.argv[1])
     disk, memory = sys.argv[2], (sys.argv[3:] or ["/dev/shm"])[0]
     print("where | commands | " + " | ".join(f"{it} workers" for it in WORKERS))
-    for where, kind, size, count in ((memory, "catalogs", 160_000, 400), (disk, "facts", 119, 400), (disk, "facts", 10_000, 200)):
+    runs_of = [(memory, "catalogs", 160_000, 400), (memory, "facts", 10_000, 2_000), (disk, "facts", 119, 400), (disk, "facts", 10_000, 200)]
+    for where, kind, size, count in runs_of:
         best = timed(program, where, kind, size, count)
         for part, name in enumerate(("run", "applying")):
             row = " | ".join(f"{count / best[it][part]:.0f} a second ({best[1][part] / best[it][part]:.2f})" for it in WORKERS)
