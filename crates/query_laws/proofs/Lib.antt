@@ -11,5 +11,7 @@ pub mod Placed
 pub mod FirstPlaces
 pub mod FirstParts
 pub mod FirstFaults
+pub mod Judged
+pub mod JudgedForms
 -- What those above use of the crates below.
 pub use Rattle.json_machine.proofs as of_json_machine

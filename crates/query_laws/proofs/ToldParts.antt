@@ -29,7 +29,7 @@ use Rattle.query_laws.proofs.Told.{refused, gave, bound, Told, Any, FunctionSays
 -- ---- what is shown
 
 -- an output that collides with none so far
-abbrev SelectedTold : List ℕ → List Selected → Json → Selected → Type 0
+abbrev pub SelectedTold : List ℕ → List Selected → Json → Selected → Type 0
 SelectedTold p earlier v x = Told Json ShownForm Selected shown_value (shown_meaning p) (λ s. list_any (clashes (shown_meaning p s)) earlier ≡ false) v x
 
 rows_told : (p : List ℕ) (earlier : List Selected) (f : List ℕ) (o : Option Function) (x : Selected) → FunctionSays f o → rows_at p earlier o ≡ Ok x → SelectedTold p earlier (headed (codes "function") (item (json.string f) no_items)) x
@@ -61,7 +61,7 @@ form_told p earlier h (item v no_items) x t e = refused (p ++ 1 ∷ []) x e
 form_told p earlier h (item v (item w no_items)) x t e = refused (p ++ 1 ∷ []) x e
 form_told p earlier h _ x t e = refused p x e
 
-selected_told : (p : List ℕ) (earlier : List Selected) (v : Json) (x : Selected) → selected_at p earlier v ≡ Ok x → SelectedTold p earlier v x
+pub selected_told : (p : List ℕ) (earlier : List Selected) (v : Json) (x : Selected) → selected_at p earlier v ≡ Ok x → SelectedTold p earlier v x
 selected_told p earlier (json.string s) x h =
     let c = barred (list_any (clashes (selected.Column (name s p))) earlier) (Ok (selected.Column (name s p))) p x h in
     record { form = column s; good = c.0; value_is = refl; means = gave (selected.Column (name s p)) x c.1 }

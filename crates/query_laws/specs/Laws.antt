@@ -11,6 +11,8 @@ use Rattle.query_spec.specs.Query.{Level}
 use Rattle.query_laws.specs.Faults.{IsFirst, HasFault}
 use Rattle.query_laws.specs.Grammar.{SpellsQuery, SpellsRoute, IsShallow}
 use Rattle.query_laws.specs.Places.{IsPlaceIn}
+use Rattle.query_laws.specs.Refused as kind
+use Rattle.query_laws.specs.Refused.{IsRefused, told}
 
 abbrev pub TextsHaveSomeAnswer : Type 0
 TextsHaveSomeAnswer = (ast : Json → Read Level) (text : List ℕ) → (answer : Answer) × AnswerOf ast text answer
@@ -59,3 +61,10 @@ FirstFaultsAreTold = (k : Sought) (v : Json) (q : Level) → query v ≡ Ok q �
 abbrev pub FirstFaultsOfRoutesAreTold : Type 0
 FirstFaultsOfRoutesAreTold =
     (k : Sought) (e : Entity) (v : Json) (q : Level) → route e v ≡ Ok q → IsFirst (level_fault k q) (HasFault k q)
+
+-- the place of a fault is the first of all places at which no form allows the value
+abbrev pub FirstRefusalsAreTold : Type 0
+FirstRefusalsAreTold = (v : Json) → IsFirst (told (query v)) (IsRefused kind.query v)
+
+abbrev pub FirstRefusalsOfRoutesAreTold : Type 0
+FirstRefusalsOfRoutesAreTold = (e : Name) (v : Json) → IsFirst (told (route_at e [] v)) (IsRefused kind.route v)

@@ -1,4 +1,5 @@
 pub mod Places
 pub mod Grammar
 pub mod Faults
+pub mod Refused
 pub mod Laws

@@ -2,6 +2,7 @@
 ghost use Rattle.query_laws.specs.Laws.{TextsHaveSomeAnswer, TextsHaveOneAnswer, EntitiesHaveNames, OnlyNamesNameEntities, QueriesAreSpelt};
 ghost use Rattle.query_laws.specs.Laws.{QueriesAreShallow, SpeltQueriesAreRead, RoutesAreSpelt, SpeltRoutesAreRead, FaultsStandInTheValue};
 ghost use Rattle.query_laws.specs.Laws.{FaultsOfRoutesStandInTheValue, FirstFaultsAreTold, FirstFaultsOfRoutesAreTold};
+ghost use Rattle.query_laws.specs.Laws.{FirstRefusalsAreTold, FirstRefusalsOfRoutesAreTold};
 
 /// A text has exactly one answer: a query, or one refusal with its position. This holds for every way of reading the JSON value.
 pub fn a_text_has_one_answer()
@@ -39,4 +40,10 @@ pub fn faults_stand_in_the_value()
 pub fn the_first_fault_is_told()
     ensures query { FirstFaultsAreTold }
     ensures route { FirstFaultsOfRoutesAreTold }
+{}
+
+/// The place of a fault in the form is the first in preorder at which no form allows the value.
+pub fn the_first_value_without_a_form_is_told()
+    ensures query { FirstRefusalsAreTold }
+    ensures route { FirstRefusalsOfRoutesAreTold }
 {}
