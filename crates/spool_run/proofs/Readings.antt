@@ -71,7 +71,8 @@ no_items now p (b ∷ bytes) none = (bad_at p, (refl, (λ e. cc), none))
 
 read_front : (now : ℤ) (taken rest : List ℕ) (items : List Item) (p : ℕ) (bytes : List ℕ) (q : ℕ) → StandFrom now p bytes items q (taken ++ rest) → (BeginsWithItem now q taken → ⊥)
     → (front : List ℕ) × (bytes ≡ front ++ rest) × (end : End) × ItemsFrom now p front items end
-read_front now taken rest [] p bytes q h none = (taken, h.1, no_items now p taken (subst (λ n. BeginsWithItem now n taken → ⊥) (sym h.0) none))
+read_front now taken rest [] p bytes q h none =
+    let ends = no_items now p taken (subst (λ n. BeginsWithItem now n taken → ⊥) (sym h.0) none) in (taken, h.1, ends.0, ends.1)
 read_front now taken rest (item ∷ items) p bytes q h none =
     let behind = read_front now taken rest items (p + length h.0) h.1 q h.5 none in (
       h.0 ++ behind.0,
@@ -86,7 +87,7 @@ were_read now items (Some bytes) None rest q h s = absurd h
 were_read now items (Some bytes) (Some left) None q h s = absurd s.is_taken
 were_read now items (Some bytes) (Some left) (Some rest) q h s =
     let front = read_front now s.taken rest items 0 bytes q (subst (StandFrom now 0 bytes items q) s.is_taken h) s.no_item in
-    (front.0, front.1, (front.2, front.3))
+    (front.0, front.1, front.2, front.3)
 
 -- ---- a front
 

@@ -251,7 +251,7 @@ module _ {D : Type 0} (w : DiskSight D) (now : ℤ) (spool spool_after out out_a
         answer closes
     closed_run end.ReadFault ends read answer closes =
         at_end status.ReadFault answer closes.0
-        (calm_run status.ReadFault (tt, tt, tt, tt) (queue_later w disks opened opens ended sound now spool.bytes false ends.items ends.took) (some w disks opened opens ended sound now spool.bytes false false ends.items ends.spool ends.took ends.after.0 (NoBatch now spool.bytes spool_after.bytes) ends.after.1)
+        (calm_run status.ReadFault (tt, tt, tt, tt) (queue_later w disks opened opens ended sound now spool.bytes false ends.items ends.took) (some w disks opened opens ended sound now spool.bytes false false ends.items ends.spool ends.took ends.after.0 (NoBatch now spool.bytes spool_after.bytes) (ends.after.1, ends.after.2))
         (λ quiet. kept out out_after closes.1)
         (record { later = read.later; cause = λ is. read.cause refl; calm = λ none. absurd (none refl) }) (uncounted out out_after (status.ReadFault ≡ status.WriteFault) (λ is. subst IsNoWriteFault is tt) closes.1))
     closed_run end.QueueFault (inl ends) read answer closes =
