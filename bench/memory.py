@@ -53,6 +53,13 @@ def again(times):
     return (item("facts", payload(text, "facts", 0).replace(b"2024-05-01T10:00:00.000Z", b"2024-05-01T%02d:%02d:%02d.000Z" % (10 + n // 3600, n // 60 % 60, n % 60))) for n in range(times))
 
 
+def ended(times):
+    """Deactivations of one node, each with a later stamp, of which all end."""
+    for n in range(times):
+        body = b'{"certname":"node00000","producer_timestamp":"2024-05-01T%02d:%02d:%02d.%03dZ"}' % (n // 3600000, n // 60000 % 60, n // 1000 % 60, n % 1000)
+        yield b"deactivate_node 3 %d\n%s\n" % (len(body), body)
+
+
 def call(words, folder, source=os.devnull):
     """The seconds of the processor, the most bytes that the process had, and what it printed."""
     with open(source, "rb") as stdin:
@@ -114,6 +121,16 @@ def weigh(what, program, commands, count):
         many.away()
 
 
+def whole(what, program, commands, count):
+    """The most MB that a run over so many commands takes, and an opening of its files."""
+    fleet = Fleet(program, commands(count))
+    try:
+        seconds, most, size = fleet.opened()
+        print(f"{what}, {count} times | {size / 1e6:.0f} MB of logs | MB: run {fleet.kept / 1e6:.0f}, opening {most / 1e6:.0f} | {seconds:.2f} s", flush=True)
+    finally:
+        fleet.away()
+
+
 def ask(program, nodes):
     fleet = Fleet(program, mixed(nodes))
     try:
@@ -152,6 +169,8 @@ def main():
     for kind in KINDS:
         weigh(f"node of {kind} alone", program, alone(kind), 2 * nodes)
     weigh("facts of one node again", program, again, 2 * nodes)
+    whole("facts of one node", program, again, 1000)
+    whole("deactivations of one node", program, ended, 1_000_000)
     ask(program, nodes)
 
 
