@@ -135,9 +135,10 @@ def ask(program, nodes):
     fleet = Fleet(program, mixed(nodes))
     try:
         opening = fleet.opened()
+        one = json.loads(payload(template("calm", "whole"), "calm", 7))["certname"]
         print(f"queries of {nodes} mixed nodes | milliseconds without the opening | MB above the opening | rows")
         for what, text in QUERIES:
-            seconds, most, printed = fleet.query(text % "node00007" if "%" in text else text)
+            seconds, most, printed = fleet.query(text % one if "%" in text else text)
             print(f"{what} | {(seconds - opening[0]) * 1000:.1f} | {(most - opening[1]) / 1e6:.1f} | {len(json.loads(printed))}", flush=True)
     finally:
         fleet.away()
