@@ -12,7 +12,7 @@ use Rattle.core_inbox.specs.link_serving.means_spec.OutRows.{OutRows, lines_text
 use Rattle.core_inbox.specs.link_serving.means_spec.World as meant
 use Rattle.core_inbox.specs.link_serving.means_spec.World.{World}
 use Rattle.core_inbox.specs.link_serving.paging_text.Shown.{written_text}
-use Rattle.core_inbox.specs.link_serving.query_plain.Tables as table
+use Rattle.core_inbox.specs.link_serving.query_engine.Tables as table
 use Rattle.core_inbox.specs.link_serving.http_routes.Course.{Outside, outside}
 use Rattle.core_inbox.specs.link_serving.front_port.Links.{Given}
 use Rattle.core_inbox.specs.link_serving.declared.end.ServeEnd.{ServeEnd}

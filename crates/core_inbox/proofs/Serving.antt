@@ -10,7 +10,7 @@ use Rattle.link_serving.specs.means_spec.World as spec
 use Rattle.link_serving.specs.means_spec.World.{World}
 use Rattle.link_serving.specs.paging_text.Shown.{written_text}
 use Rattle.link_serving.specs.pattern_port.Refused.{Asked}
-use Rattle.link_serving.specs.query_plain.Tables.{world_of}
+use Rattle.link_serving.specs.query_engine.Tables.{world_of}
 use Rattle.link_serving.specs.declared.end.ServeEnd.{ServeEnd}
 use Rattle.link_serving.specs.Serving.{FrontSeen, ServesFront}
 use Rattle.core_inbox.specs.Submits.{CoreTakes}

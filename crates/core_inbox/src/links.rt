@@ -8,7 +8,7 @@ ghost use Rattle.link_serving.specs.history_spec.Trace.{Trace};
 ghost use Rattle.link_serving.specs.means_spec.OutRows.{lines_text};
 ghost use Rattle.link_serving.specs.means_spec.World as spec;
 ghost use Rattle.link_serving.specs.paging_text.Shown.{written_text};
-ghost use Rattle.link_serving.specs.query_plain.Tables.{world_of};
+ghost use Rattle.link_serving.specs.query_engine.Tables.{world_of};
 ghost use Rattle.link_serving.specs.http_routes.Course.{outside};
 ghost use Rattle.link_serving.specs.Serving.{front_seen};
 ghost use Rattle.core_inbox.specs.Intake.{ServesCore};

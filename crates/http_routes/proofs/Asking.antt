@@ -16,10 +16,10 @@ use Rattle.paging_params.specs.Paging.{read_as, checked_paging, AreOrders, IsPag
 use Rattle.routes_spec.specs.pattern_port.Refused.{Asked, asked_more}
 use Rattle.routes_spec.proofs.of_plain_laws.Booleans.{no_truth}
 use Rattle.routes_spec.specs.query_answer.query_plan.Plan.{level_patterns}
-use Rattle.query_plain.specs.Answers.{taken, AreAsked, MatchPicked, IsBadPattern}
-use Rattle.query_plain.specs.declared.select.Picked.{Picked}
-use Rattle.query_plain.specs.declared.select.QueryFault.{QueryFault}
-use Rattle.query_plain.specs.declared.select.QueryFault.TheVariants as pick
+use Rattle.query_engine.specs.Answers.{taken, AreAsked, MatchPicked, IsBadPattern}
+use Rattle.query_engine.specs.declared.engine.Picked.{Picked}
+use Rattle.query_engine.specs.declared.engine.QueryFault.{QueryFault}
+use Rattle.query_engine.specs.declared.engine.QueryFault.TheVariants as pick
 use Rattle.routes_spec.specs.query_spec.declared.parts.Paging.{Paging}
 use Rattle.routes_spec.specs.query_spec.declared.parts.Pattern.{Pattern}
 use Rattle.routes_spec.specs.query_spec.Query.{Level}

@@ -14,8 +14,8 @@ use Rattle.paging_params.specs.Params.{ParamValue}
 use Rattle.paging_text.proofs.RowTexts.{rows_text_is}
 use Rattle.paging_text.specs.Shown.{written_text}
 use Rattle.routes_spec.specs.pattern_port.Refused.{Asked}
-use Rattle.query_plain.proofs.Worlds.{world_is}
-use Rattle.query_plain.specs.Tables.{world_of}
+use Rattle.query_engine.proofs.Worlds.{world_is}
+use Rattle.query_engine.specs.Tables.{world_of}
 use Rattle.routes_spec.specs.query_spec.declared.parts.Paging.{Paging}
 use Rattle.routes_spec.specs.query_spec.Query.{Level}
 use Rattle.routes_spec.specs.query_answer.Told.{Told}

@@ -7,9 +7,9 @@ use Rattle.paging_params.specs.Paging.{IsPagingOf}
 use Rattle.paging_params.specs.declared.read.PagingFault.{PagingFault}
 use Rattle.paging_params.specs.declared.read.PagingFault.TheVariants as page_fault
 use Rattle.paging_text.specs.Shown.{rows_of, written_text}
-use Rattle.query_plain.specs.declared.select.Picked.{Picked}
-use Rattle.query_plain.specs.declared.select.QueryFault.{QueryFault}
-use Rattle.query_plain.specs.declared.select.QueryFault.TheVariants as pick
+use Rattle.query_engine.specs.declared.engine.Picked.{Picked}
+use Rattle.query_engine.specs.declared.engine.QueryFault.{QueryFault}
+use Rattle.query_engine.specs.declared.engine.QueryFault.TheVariants as pick
 use Rattle.routes_spec.specs.query_answer.declared.refusal.QueryRefusal.TheVariants as why
 use Rattle.routes_spec.specs.pattern_port.Refused.{Asked}
 use Rattle.routes_spec.specs.query_answer.RefusalText.{refusal_text}

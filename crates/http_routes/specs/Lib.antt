@@ -14,7 +14,7 @@ pub use Rattle.routes_spec.specs.table_machine as table_machine
 pub use Rattle.routes_spec.specs.fleet_tables as fleet_tables
 pub use Rattle.routes_spec.specs.means_spec as means_spec
 pub use Rattle.routes_spec.specs.pattern_port as pattern_port
-pub use Rattle.query_plain.specs as query_plain
+pub use Rattle.query_engine.specs as query_engine
 pub use Rattle.paging_text.specs as paging_text
 pub use Rattle.http_front.specs as http_front
 pub use Rattle.routes_spec.specs as routes

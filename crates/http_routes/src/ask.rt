@@ -2,7 +2,7 @@
 ghost use Rattle.std.specs.Prelude.{◌≡◌, ◌≢◌, ℕ, List, IfOk, Some};
 ghost use Rattle.paging_params.specs.Params.{last_under};
 ghost use Rattle.paging_text.specs.Shown.{rows_of, written_text};
-ghost use Rattle.query_plain.specs.Tables.{world_of};
+ghost use Rattle.query_engine.specs.Tables.{world_of};
 ghost use Rattle.routes_spec.specs.Answers.{IsRowsAnswer, IsQuestionAnswer};
 ghost use Rattle.routes_spec.specs.Queries as meant;
 ghost use Rattle.routes_spec.specs.Reading.{ReadsFront, IsReadOf, IsReadOn};
@@ -19,7 +19,7 @@ use http_spec::{Answer, Request};
 use paging_params::{PagingFault, Params, read_paging};
 use paging_text::{OutRows, page, write_rows};
 use pattern_port::Patterns;
-use query_plain::{Picked, QueryFault, select_plain};
+use query_engine::{Picked, QueryFault, select_uncounted};
 use query_spec::Paging;
 use routes_spec::{QueryRefusal, Route};
 use std::alloc::{AllocError, Global};
@@ -113,7 +113,7 @@ fn rows_answer<P: Patterns>(
         (IsRowsAnswer (world_of tables.now (P.says patterns.old)) written_text ends query.now (λ name. last_under name params.now)) result }
     ensures code { IfOk result (λ answer. answer.code ≢ 500) }
 {
-    let picked = select_plain(alloc, tables, query, patterns);
+    let picked = select_uncounted(alloc, tables, query, patterns);
     picked_answer(alloc, ends, query, params, picked)
 }
 

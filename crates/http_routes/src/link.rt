@@ -9,7 +9,7 @@ ghost use Rattle.http_front.specs.Next.{unread};
 ghost use Rattle.routes_spec.specs.means_spec.OutRows.{lines_text};
 ghost use Rattle.routes_spec.specs.means_spec.World as spec;
 ghost use Rattle.paging_text.specs.Shown.{written_text};
-ghost use Rattle.query_plain.specs.Tables.{world_of};
+ghost use Rattle.query_engine.specs.Tables.{world_of};
 ghost use Rattle.routes_spec.specs.Answers.{IsRouteAnswer};
 ghost use Rattle.routes_spec.specs.Reading.{IsReadOn};
 ghost use Rattle.routes_spec.specs.Routes.{path_of, route_at, takes_method};

@@ -9,7 +9,7 @@ use Rattle.http_routes.specs.means_spec.World.{World}
 use Rattle.http_routes.specs.fleet_tables.Stands.{Stands}
 use Rattle.http_routes.specs.history_spec.Trace.{Trace}
 use Rattle.http_routes.specs.table_machine.Table.{Table}
-use Rattle.http_routes.specs.query_plain.Tables.{world_of}
+use Rattle.http_routes.specs.query_engine.Tables.{world_of}
 use Rattle.http_routes.specs.paging_text.Shown.{written_text}
 use Rattle.http_routes.specs.http_front.Link.{limited}
 use Rattle.http_routes.specs.Course.{Outside}

@@ -7,7 +7,7 @@ ghost use Rattle.http_routes.specs.history_spec.Trace.{Trace};
 ghost use Rattle.http_routes.specs.means_spec.OutRows.{lines_text};
 ghost use Rattle.http_routes.specs.means_spec.World as spec;
 ghost use Rattle.http_routes.specs.paging_text.Shown.{written_text};
-ghost use Rattle.http_routes.specs.query_plain.Tables.{world_of};
+ghost use Rattle.http_routes.specs.query_engine.Tables.{world_of};
 ghost use Rattle.http_routes.specs.Course.{outside};
 ghost use Rattle.http_routes.specs.Inbox.{Takes};
 ghost use Rattle.link_serving.specs.Serving.{front_seen, IsTurn, ServesFront};

@@ -1,8 +1,8 @@
 -- From what was picked to what is answered.
 use Rattle.std.proofs.Common.{◌≡◌, ◌∙◌, ℕ, List, [], ◌∷◌, ◌++◌, refl, sym, ap, subst, arith, Bool, Option, Some, None, Result, Ok, Err, inl, inr, append-nil}
 use Rattle.std.specs.List.{AllByRecursion}
-use Rattle.query_plain.specs.fleet_ports.Counts.{Counts}
-use Rattle.query_plain.specs.fleet_tables.Stands.{Stands}
+use Rattle.query_engine.specs.fleet_ports.Counts.{Counts}
+use Rattle.query_engine.specs.fleet_tables.Stands.{Stands}
 use Rattle.ast_reader.specs.text_spec.Json.{Json}
 use Rattle.means_laws.specs.history_spec.Trace.{Trace}
 use Rattle.means_laws.specs.table_machine.Table.{Table}
@@ -16,17 +16,17 @@ use Rattle.ast_reader.specs.query_spec.declared.parts.Pattern.{Pattern}
 use Rattle.means_laws.specs.means_spec.World.{World}
 use Rattle.means_laws.specs.means_spec.World as spec
 use Rattle.means_laws.specs.means_spec.OutRows.{OutRows, means, lines_text}
-use Rattle.query_plain.specs.pattern_port.Refused.{Asked, asked_more}
+use Rattle.query_engine.specs.pattern_port.Refused.{Asked, asked_more}
 use Rattle.means_laws.specs.paging_text.Shown.{IsPrintableRow, rows_of, written_text}
 use Rattle.means_laws.proofs.of_paging_text.RowTexts.{rows_text_is}
 use Rattle.means_laws.proofs.PrintableMeans.{rows_can_be_printed}
-use Rattle.query_plain.specs.query_plan.Plan.{level_patterns}
-use Rattle.query_plain.specs.Answers.{taken, IsFirstRefused, IsFrontRead, AreAsked, MatchPicked, IsBadPattern}
-use Rattle.query_plain.specs.Tables.{world_of}
-use Rattle.query_plain.specs.declared.select.Picked.{Picked}
-use Rattle.query_plain.specs.declared.select.QueryFault.{QueryFault}
-use Rattle.query_plain.specs.declared.select.QueryFault.TheVariants as pick
-use Rattle.query_plain.proofs.Worlds.{world_is}
+use Rattle.query_engine.specs.query_plan.Plan.{level_patterns}
+use Rattle.query_engine.specs.Answers.{taken, IsFirstRefused, IsFrontRead, AreAsked, MatchPicked, IsBadPattern}
+use Rattle.query_engine.specs.Tables.{world_of}
+use Rattle.query_engine.specs.declared.engine.Picked.{Picked}
+use Rattle.query_engine.specs.declared.engine.QueryFault.{QueryFault}
+use Rattle.query_engine.specs.declared.engine.QueryFault.TheVariants as pick
+use Rattle.query_engine.proofs.Worlds.{world_is}
 use Rattle.query_answer.specs.Told.{Told, in_ast, unread_ast}
 use Rattle.query_answer.specs.Answers.{unpicked, IsWritten, IsUnanswered, MatchRows, IsUntold, MatchAnswer, IsPatternFault, IsPatternRefused}
 use Rattle.query_answer.specs.declared.answer.AnswerFault.{AnswerFault}

@@ -1,13 +1,13 @@
 -- From what was read of a text in PQL to what is answered, and from a language to that of a text.
 use Rattle.std.proofs.Common.{◌≡◌, ◌∙◌, ℕ, List, arith, Bool, true, false, Option, Result, Ok, Err, refl, sym, subst, inl}
-use Rattle.query_plain.specs.fleet_ports.Counts.{Counts}
+use Rattle.query_engine.specs.fleet_ports.Counts.{Counts}
 use Rattle.ast_reader.specs.query_spec.Answer.{AnswerOf, query}
 use Rattle.pql_reader.specs.Answered.{Answered}
 use Rattle.pql_reader.specs.declared.read.PqlFault.{PqlFault}
 use Rattle.pql_reader.specs.declared.read.PqlFault.TheVariants as read
 use Rattle.means_laws.specs.means_spec.World.{World}
 use Rattle.means_laws.specs.means_spec.OutRows.{OutRows}
-use Rattle.query_plain.specs.pattern_port.Refused.{Asked}
+use Rattle.query_engine.specs.pattern_port.Refused.{Asked}
 use Rattle.query_answer.specs.Language.{is_ast}
 use Rattle.query_answer.specs.Told.{in_ast, in_pql, in_language, told_of, unread_pql}
 use Rattle.query_answer.specs.Answers.{IsUntold, MatchAnswer, IsPatternFault}

@@ -4,13 +4,13 @@ use Rattle.ast_reader.specs.query_spec.Query.{Level}
 use Rattle.means_laws.specs.means_spec.World.{World}
 use Rattle.means_laws.specs.means_spec.OutRows.{OutRows, means}
 use Rattle.means_laws.specs.means_spec.Sums.{too_large}
-use Rattle.query_plain.specs.pattern_port.Refused.{Asked, asked_more}
+use Rattle.query_engine.specs.pattern_port.Refused.{Asked, asked_more}
 use Rattle.means_laws.specs.paging_text.Shown.{rows_of, written_text}
-use Rattle.query_plain.specs.query_plan.Plan.{level_patterns}
-use Rattle.query_plain.specs.Answers.{taken, IsFirstRefused, IsFrontRead}
-use Rattle.query_plain.specs.declared.select.Picked.{Picked}
-use Rattle.query_plain.specs.declared.select.QueryFault.{QueryFault}
-use Rattle.query_plain.specs.declared.select.QueryFault.TheVariants as pick
+use Rattle.query_engine.specs.query_plan.Plan.{level_patterns}
+use Rattle.query_engine.specs.Answers.{taken, IsFirstRefused, IsFrontRead}
+use Rattle.query_engine.specs.declared.engine.Picked.{Picked}
+use Rattle.query_engine.specs.declared.engine.QueryFault.{QueryFault}
+use Rattle.query_engine.specs.declared.engine.QueryFault.TheVariants as pick
 use Rattle.query_answer.specs.Told.{Told}
 use Rattle.query_answer.specs.declared.answer.AnswerFault.{AnswerFault}
 use Rattle.query_answer.specs.declared.answer.AnswerFault.TheVariants.{Refused, Memory}

@@ -1,8 +1,8 @@
 //! Answers queries in the AST, and queries that were read already.
 ghost use Rattle.std.specs.Prelude.{◌≡◌, ℕ, List};
 ghost use Rattle.ast_reader.specs.text_spec.Json.{Json};
-ghost use Rattle.query_plain.specs.fleet_ports.Counts.{Counts};
-ghost use Rattle.query_plain.specs.fleet_tables.Stands.{Stands};
+ghost use Rattle.query_engine.specs.fleet_ports.Counts.{Counts};
+ghost use Rattle.query_engine.specs.fleet_tables.Stands.{Stands};
 ghost use Rattle.means_laws.specs.history_spec.Trace.{Trace};
 ghost use Rattle.ast_reader.specs.query_spec.Answer as spelt;
 ghost use Rattle.ast_reader.specs.query_spec.Answer.{AnswerOf};
@@ -12,7 +12,7 @@ ghost use Rattle.ast_reader.specs.Answered.{AnsweredAs};
 ghost use Rattle.means_laws.specs.means_spec.OutRows.{lines_text};
 ghost use Rattle.means_laws.specs.means_spec.World as spec;
 ghost use Rattle.means_laws.specs.paging_text.Shown.{written_text};
-ghost use Rattle.query_plain.specs.Tables.{world_of};
+ghost use Rattle.query_engine.specs.Tables.{world_of};
 ghost use Rattle.query_answer.specs.Told.{in_ast, unread_ast};
 ghost use Rattle.query_answer.specs.Answers.{unpicked, IsWritten, MatchRows, MatchAnswer, IsPatternRefused};
 
@@ -23,7 +23,7 @@ use ast_reader::json_tree::Bytes;
 use ast_reader::{AstFault, read_ast, read_filter};
 use means_laws::paging_text::write_rows;
 use pattern_port::Patterns;
-use query_plain::{Picked, QueryFault, Tables, select_plain};
+use query_engine::{Picked, QueryFault, Tables, select_uncounted};
 use std::alloc::{AllocError, Global};
 
 /// Why a text has no rows as its answer.
@@ -90,7 +90,7 @@ pub fn answer_query<P: Patterns>(
     // `BadPattern` raises the count of refusals, up to 2^64 - 1. Any other result leaves the count unchanged.
     ensures cause { Counts (P.refusals patterns.old) (P.refusals patterns.new) (IsPatternRefused result) }
 {
-    written(alloc, select_plain(alloc, tables, query, patterns))
+    written(alloc, select_uncounted(alloc, tables, query, patterns))
 }
 
 // The answer to a text with this result of reading it.

@@ -1,12 +1,12 @@
 //! Answers queries in PQL, and queries in either language.
 ghost use Rattle.std.specs.Prelude.{◌≡◌, ℕ, List};
-ghost use Rattle.query_plain.specs.fleet_ports.Counts.{Counts};
-ghost use Rattle.query_plain.specs.fleet_tables.Stands.{Stands};
+ghost use Rattle.query_engine.specs.fleet_ports.Counts.{Counts};
+ghost use Rattle.query_engine.specs.fleet_tables.Stands.{Stands};
 ghost use Rattle.means_laws.specs.history_spec.Trace.{Trace};
 ghost use Rattle.means_laws.specs.means_spec.OutRows.{lines_text};
 ghost use Rattle.means_laws.specs.means_spec.World as spec;
 ghost use Rattle.means_laws.specs.paging_text.Shown.{written_text};
-ghost use Rattle.query_plain.specs.Tables.{world_of};
+ghost use Rattle.query_engine.specs.Tables.{world_of};
 ghost use Rattle.query_answer.specs.Answers.{MatchAnswer, IsPatternRefused};
 ghost use Rattle.query_answer.specs.Told.{in_pql, told_of, unread_pql};
 
@@ -16,7 +16,7 @@ use crate::refusal::QueryRefusal;
 use ast_reader::json_tree::Bytes;
 use pattern_port::Patterns;
 use pql_reader::{PqlFault, read_pql};
-use query_plain::Tables;
+use query_engine::Tables;
 use std::alloc::Global;
 
 fn unread(fault: PqlFault) -> AnswerFault

@@ -1,11 +1,2 @@
-pub mod SumLaws
-pub mod Fitting
-pub mod Worlds
-pub mod SortedRefs
-pub mod BegunLaws
-pub mod Places
-pub mod Asked
-pub mod Tried
-pub mod Picks
-pub mod FactLaws
-pub mod Stages
+-- What those above use of the crates below.
+pub use Rattle.query_engine.proofs as of_query_engine

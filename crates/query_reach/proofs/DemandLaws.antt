@@ -1,5 +1,5 @@
 -- What pins demand of a column, one more text at a time.
-use Rattle.std.proofs.Common.{◌≡◌, ◌∙◌, ℕ, suc, ◌+◌, ◌<◌, List, [], ◌∷◌, ◌++◌, length, map, take, get_or, refl, sym, ap, subst, Bool, true, false, ◌&&◌, if◌then◌else◌, arith}
+use Rattle.std.proofs.Common.{◌≡◌, ◌∙◌, ℕ, ◌+◌, ◌<◌, List, [], ◌∷◌, ◌++◌, length, take, get_or, refl, sym, ap, Bool, true, false, ◌&&◌, if◌then◌else◌}
 use Rattle.std.specs.Str.{bytes_eq}
 use Rattle.std.proofs.lemmas.List.Folds.{list_all-append}
 use Rattle.std.proofs.lemmas.List.{take_more}
@@ -8,7 +8,7 @@ use Rattle.ast_tree.proofs.of_plain_laws.Lists.{one_text, bytes_eq-itself, map_b
 use Rattle.query_plan.specs.table_spec.fleet_rows.Cell.{CellValue}
 use Rattle.query_plan.specs.table_spec.Cells.{text_cell}
 use Rattle.query_plan.specs.table_spec.Named.{text_equals}
-use Rattle.query_reach.specs.Demands.{is_each}
+use Rattle.query_reach.specs.Demands.{is_each, told_of}
 use Rattle.query_reach.specs.Reach as reach
 use Rattle.query_reach.specs.Reach.{demanded}
 use Rattle.query_reach.specs.Seen.{pin_seen, pins_seen}
@@ -44,19 +44,16 @@ other_text texts other text so_far apart s =
     each_more texts text (text_cell s)
     ∙ ap (λ b. b && text_equals text (text_cell s)) (so_far (text_cell s))
     ∙ not_so (text_equals other (text_cell s) && text_equals text (text_cell s)) (λ both.
-        let parts = both_true (text_equals other (text_cell s)) (text_equals text (text_cell s)) both in
-        let one : s ≡ other = one_text s other parts.0 in
-        let two : s ≡ text = one_text s text parts.1 in
-        let alike : bytes_eq other text ≡ true = ap (λ t. bytes_eq other t) (sym two ∙ one) ∙ bytes_eq-itself other in
-        never (bytes_eq other text) alike apart)
+    let parts = both_true (text_equals other (text_cell s)) (text_equals text (text_cell s)) both in
+    let one : s ≡ other = one_text s other parts.0 in
+    let two : s ≡ text = one_text s text parts.1 in
+    let alike : bytes_eq other text ≡ true = ap (λ t. bytes_eq other t) (sym two ∙ one) ∙ bytes_eq-itself other in
+    never (bytes_eq other text) alike apart)
 
 pub still_different : (texts : List (List ℕ)) (text : List ℕ) → ((s : List ℕ) → is_each texts (text_cell s) ≡ false) → (s : List ℕ) → is_each (texts ++ text ∷ []) (text_cell s) ≡ false
 still_different texts text so_far s = each_more texts text (text_cell s) ∙ ap (λ b. b && text_equals text (text_cell s)) (so_far s)
 
 -- ---- one more pin
-
-abbrev texts_of : List ℕ → reach.Pin → List (List ℕ)
-texts_of column p = if bytes_eq column p.column then p.text ∷ [] else []
 
 more_step : (b : Bool) (text : List ℕ) (xs ys zs : List (List ℕ)) → xs ≡ ys ++ zs → (if b then text ∷ xs else xs) ≡ (if b then text ∷ ys else ys) ++ zs
 more_step true text xs ys zs h = ap (λ l. text ∷ l) h
@@ -67,24 +64,10 @@ demanded_both column [] qs = refl
 demanded_both column (p ∷ ps) qs =
     more_step (bytes_eq column p.column) p.text (demanded column (ps ++ qs)) (demanded column ps) (demanded column qs) (demanded_both column ps qs)
 
-pin_more : (column : List ℕ) (pins : List Pin) (i : ℕ) (p : Pin) → i < length pins → p ≡ get_or pins i p
-    → demanded column (pins_seen (take (i + 1) pins)) ≡ demanded column (pins_seen (take i pins)) ++ texts_of column (pin_seen p)
+pub pin_more : (column : List ℕ) (pins : List Pin) (i : ℕ) (p : Pin) → i < length pins → p ≡ get_or pins i p
+    → demanded column (pins_seen (take i pins)) ++ told_of column (pin_seen p) ≡ demanded column (pins_seen (take (i + 1) pins))
 pin_more column pins i p lt at =
-    ap (λ l. demanded column (pins_seen l)) (take_more pins i p lt ∙ ap (λ q. take i pins ++ q ∷ []) (sym at))
+    sym
+    (ap (λ l. demanded column (pins_seen l)) (take_more pins i p lt ∙ ap (λ q. take i pins ++ q ∷ []) (sym at))
     ∙ ap (demanded column) (map_both pin_seen (take i pins) (p ∷ []))
-    ∙ demanded_both column (pins_seen (take i pins)) (pin_seen p ∷ [])
-
-pub pin_here : (column : List ℕ) (pins : List Pin) (i : ℕ) (p : Pin) → i < length pins → p ≡ get_or pins i p → bytes_eq column p.column.now.text ≡ true
-    → demanded column (pins_seen (take i pins)) ++ p.text.now ∷ [] ≡ demanded column (pins_seen (take (i + 1) pins))
-pin_here column pins i p lt at is =
-    sym (pin_more column pins i p lt at ∙ ap (λ b. demanded column (pins_seen (take i pins)) ++ (if b then p.text.now ∷ [] else [])) is)
-
-nothing_behind : {A : Type 0} (xs : List A) → xs ≡ xs ++ []
-nothing_behind [] = refl
-nothing_behind (x ∷ xs) = ap (λ l. x ∷ l) (nothing_behind xs)
-
-pub pin_elsewhere : (column : List ℕ) (pins : List Pin) (i : ℕ) (p : Pin) → i < length pins → p ≡ get_or pins i p → bytes_eq column p.column.now.text ≡ false
-    → demanded column (pins_seen (take i pins)) ≡ demanded column (pins_seen (take (i + 1) pins))
-pin_elsewhere column pins i p lt at is =
-    nothing_behind (demanded column (pins_seen (take i pins)))
-    ∙ sym (pin_more column pins i p lt at ∙ ap (λ b. demanded column (pins_seen (take i pins)) ++ (if b then p.text.now ∷ [] else [])) is)
+    ∙ demanded_both column (pins_seen (take i pins)) (pin_seen p ∷ []))

@@ -1,5 +1,5 @@
 -- A stage chooses only rows in reach.
-use Rattle.std.proofs.Common.{◌≡◌, ◌∙◌, ℕ, List, [], ◌∷◌, ◌++◌, refl, sym, ap, subst, Bool, true, false, ◌&&◌, Option, Some, None, if◌then◌else◌, codes}
+use Rattle.std.proofs.Common.{◌≡◌, ◌∙◌, ℕ, List, [], ◌∷◌, ◌++◌, refl, ap, Bool, true, false, ◌&&◌, Option, Some, None, if◌then◌else◌, codes}
 use Rattle.std.specs.List.{list_all}
 use Rattle.std.specs.Str.{bytes_eq}
 use Rattle.ast_tree.proofs.of_plain_laws.Booleans.{both_true, true_both}
@@ -17,7 +17,7 @@ use Rattle.query_plan.specs.table_spec.Rows.{Cells}
 use Rattle.query_plan.specs.means_spec.World.{World}
 use Rattle.query_plan.specs.means_spec.Cells.{cell_in, field_compares}
 use Rattle.query_plan.specs.means_spec.Means.{is_seen}
-use Rattle.query_plan.specs.Plan.{Step, Stage, compares, tests_null, lists, fits, selects, shares_node, constant, invert, both, either, act, run, top, is_chosen}
+use Rattle.query_plan.specs.Plan.{Step, compares, tests_null, lists, fits, selects, shares_node, constant, invert, both, either, act, run, top}
 use Rattle.query_reach.specs.Reach.{Pin, pin_of, demanded, shows, beside, shows_own, is_found}
 use Rattle.query_reach.specs.Pins.{pin_act, pin_run, pin_top, step_pins}
 use Rattle.query_reach.specs.Laws.{ChosenRowsAreFound}

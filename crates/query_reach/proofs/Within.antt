@@ -1,14 +1,14 @@
 -- The stages of a plan read what the bound of their query says.
-use Rattle.std.proofs.Common.{◌≡◌, ◌∙◌, ℕ, ◌+◌, ◌*◌, List, [], ◌∷◌, ◌++◌, length, refl, sym, ap, true, false, arith, append_assoc, append-nil}
-use Rattle.std.specs.Prelude.{sum_by, flat_map}
+use Rattle.std.proofs.Common.{◌≡◌, ◌∙◌, ℕ, ◌+◌, ◌*◌, List, [], ◌∷◌, ◌++◌, length, refl, sym, ap, append_assoc, append-nil}
 use Rattle.std.proofs.lemmas.List.Concat.{flat_map-append}
 use Rattle.std.proofs.lemmas.List.Sums.{sum_by-append, sum_by_push}
 use Rattle.query_plan.specs.query_spec.Check.{entity_named}
 use Rattle.query_plan.specs.query_spec.declared.parts.Name.{Name}
 use Rattle.query_plan.specs.query_spec.Query as query
 use Rattle.query_plan.specs.query_spec.Query.{Filter, compare, matches, is_null, in_list, in_level, subquery, negation, all_of, any_of, Filters, no_filters, Clause, no_clause, clause, Level, level}
-use Rattle.query_plan.specs.means_spec.World.{World}
-use Rattle.query_plan.specs.Plan.{Step, Stage, Shape, stage, whole, answers, constant, invert, both, either, filter_patterns, filter_levels, filter_steps, each_steps, clause_steps, filter_stages, filters_stages, clause_stages, level_stages}
+use Rattle.query_plan.specs.table_spec.fleet_rows.declared.row.Entity.{Entity}
+use Rattle.query_plan.specs.table_spec.Rows.{Cells}
+use Rattle.query_plan.specs.Plan.{Step, Stage, Shape, stage, whole, answers, invert, both, either, filter_patterns, filter_levels, filter_steps, each_steps, clause_steps, filter_stages, filters_stages, clause_stages, level_stages}
 use Rattle.query_reach.specs.Reach.{Pin, filter_pins, filters_pins, clause_pins, reach, filter_facts, filters_facts, clause_facts, level_reads, filter_bound, filters_bound, clause_bound, level_bound}
 use Rattle.query_reach.specs.Pins.{pin_act, pin_run, pin_top, step_pins, step_facts, steps_facts, stage_reads, stages_read}
 use Rattle.query_reach.specs.Laws.{PlansReadTheBound}
@@ -87,40 +87,40 @@ clause_names (clause f) m k = filter_names f m k
 
 -- ---- so a stage reads what its level may read
 
-module _ (w : World) where
-  stage_within : (m k : ℕ) (n : Name) (c : Clause) (shape : Shape) → stage_reads w (stage m k n c shape) ≡ level_reads w (entity_named n.text) c
-  stage_within m k n c shape = λ i. reach w (entity_named n.text) (clause_demands c m k i) * (1 + length (clause_names c m k i))
+module _ (rows : Entity → List Cells) where
+  stage_within : (m k : ℕ) (n : Name) (c : Clause) (shape : Shape) → stage_reads rows (stage m k n c shape) ≡ level_reads rows (entity_named n.text) c
+  stage_within m k n c shape = λ i. reach rows (entity_named n.text) (clause_demands c m k i) * (1 + length (clause_names c m k i))
 
   -- a level behind its inner levels
-  level_on : (inner : List Stage) (m k : ℕ) (n : Name) (c : Clause) (shape : Shape) (bound : ℕ) → stages_read w inner ≡ bound
-      → stages_read w (inner ++ stage m k n c shape ∷ []) ≡ bound + level_reads w (entity_named n.text) c
+  level_on : (inner : List Stage) (m k : ℕ) (n : Name) (c : Clause) (shape : Shape) (bound : ℕ) → stages_read rows inner ≡ bound
+      → stages_read rows (inner ++ stage m k n c shape ∷ []) ≡ bound + level_reads rows (entity_named n.text) c
   level_on inner m k n c shape bound h =
-      sum_by_push (stage_reads w) inner (stage m k n c shape) ∙ (λ i. h i + stage_within m k n c shape i)
+      sum_by_push (stage_reads rows) inner (stage m k n c shape) ∙ (λ i. h i + stage_within m k n c shape i)
 
   mutual
-    filter_within : (f : Filter) (m k : ℕ) → stages_read w (filter_stages m k f) ≡ filter_bound w f
+    filter_within : (f : Filter) (m k : ℕ) → stages_read rows (filter_stages m k f) ≡ filter_bound rows f
     filter_within (compare o f l) m k = refl
     filter_within (matches f t) m k = refl
     filter_within (is_null f b) m k = refl
     filter_within (in_list fs p ls) m k = refl
     filter_within (in_level fs p q) m k = level_within q m k
-    filter_within (subquery n c) m k = level_on (clause_stages m k c) m k n c whole (clause_bound w c) (clause_within c m k)
+    filter_within (subquery n c) m k = level_on (clause_stages m k c) m k n c whole (clause_bound rows c) (clause_within c m k)
     filter_within (negation f) m k = filter_within f m k
     filter_within (all_of fs) m k = filters_within fs m k
     filter_within (any_of fs) m k = filters_within fs m k
 
-    filters_within : (fs : Filters) (m k : ℕ) → stages_read w (filters_stages m k fs) ≡ filters_bound w fs
+    filters_within : (fs : Filters) (m k : ℕ) → stages_read rows (filters_stages m k fs) ≡ filters_bound rows fs
     filters_within no_filters m k = refl
     filters_within (query.filter f fs) m k =
-        sum_by-append (stage_reads w) (filter_stages m k f) (filters_stages (m + length (filter_patterns f)) (k + filter_levels f) fs)
+        sum_by-append (stage_reads rows) (filter_stages m k f) (filters_stages (m + length (filter_patterns f)) (k + filter_levels f) fs)
         ∙ (λ i. filter_within f m k i + filters_within fs (m + length (filter_patterns f)) (k + filter_levels f) i)
 
-    clause_within : (c : Clause) (m k : ℕ) → stages_read w (clause_stages m k c) ≡ clause_bound w c
+    clause_within : (c : Clause) (m k : ℕ) → stages_read rows (clause_stages m k c) ≡ clause_bound rows c
     clause_within no_clause m k = refl
     clause_within (clause f) m k = filter_within f m k
 
-    level_within : (q : Level) (m k : ℕ) → stages_read w (level_stages m k q) ≡ level_bound w q
-    level_within (level n s c g p) m k = level_on (clause_stages m k c) m k n c (answers s g p) (clause_bound w c) (clause_within c m k)
+    level_within : (q : Level) (m k : ℕ) → stages_read rows (level_stages m k q) ≡ level_bound rows q
+    level_within (level n s c g p) m k = level_on (clause_stages m k c) m k n c (answers s g p) (clause_bound rows c) (clause_within c m k)
 
 pub plans_read_the_bound : PlansReadTheBound
-plans_read_the_bound w q = level_within w q 0 0
+plans_read_the_bound rows q = level_within rows q 0 0

@@ -1,7 +1,8 @@
 -- What the steps of a stage demand of a row that they choose, and the facts that they name.
 use Rattle.std.specs.Prelude.{ℕ, ◌+◌, ◌*◌, List, [], ◌∷◌, ◌++◌, length, sum_by, flat_map}
 use Rattle.query_plan.specs.Plan.{Step, Stage, compares, tests_null, lists, fits, selects, shares_node, constant, invert, both, either}
-use Rattle.query_plan.specs.means_spec.World.{World}
+use Rattle.query_plan.specs.table_spec.fleet_rows.declared.row.Entity.{Entity}
+use Rattle.query_plan.specs.table_spec.Rows.{Cells}
 use Rattle.query_reach.specs.Reach.{Pin, pin_of, reach, field_facts, fields_facts}
 
 -- for each boolean on the stack, what is demanded where it is true
@@ -62,8 +63,8 @@ abbrev pub steps_facts : List Step → List (List ℕ)
 steps_facts = flat_map step_facts
 
 -- what a stage reads
-abbrev pub stage_reads : World → Stage → ℕ
-stage_reads w s = reach w s.entity (step_pins s.steps) * (1 + length (steps_facts s.steps))
+abbrev pub stage_reads : (Entity → List Cells) → Stage → ℕ
+stage_reads rows s = reach rows s.entity (step_pins s.steps) * (1 + length (steps_facts s.steps))
 
-abbrev pub stages_read : World → List Stage → ℕ
-stages_read w ss = sum_by (stage_reads w) ss
+abbrev pub stages_read : (Entity → List Cells) → List Stage → ℕ
+stages_read rows ss = sum_by (stage_reads rows) ss

@@ -1,6 +1,6 @@
 -- How many rows a query may read. A level reads the rows that show what its filter demands of the columns by which rows are found,
 -- and for each of them a row for each fact that the filter names.
-use Rattle.std.specs.Prelude.{ℕ, ◌+◌, ◌*◌, List, [], ◌∷◌, ◌++◌, length, Bool, true, ◌&&◌, if◌then◌else◌, Option, Some, codes, filter, flat_map}
+use Rattle.std.specs.Prelude.{ℕ, ◌+◌, ◌*◌, List, [], ◌∷◌, ◌++◌, length, Bool, true, ◌&&◌, if◌then◌else◌, Option, Some, None, codes, filter, flat_map}
 use Rattle.std.specs.List.{list_all}
 use Rattle.std.specs.Str.{bytes_eq}
 use Rattle.query_plan.specs.table_spec.fleet_rows.declared.row.Entity.{Entity}
@@ -16,7 +16,6 @@ use Rattle.query_plan.specs.query_spec.Query as query
 use Rattle.query_plan.specs.query_spec.Query.{Filter, compare, matches, is_null, in_list, in_level, subquery, negation, all_of, any_of, Filters, no_filters, Clause, no_clause, clause, Level, level}
 use Rattle.query_plan.specs.table_spec.Named.{text_equals}
 use Rattle.query_plan.specs.table_spec.Rows.{Cells}
-use Rattle.query_plan.specs.means_spec.World.{World, rows_in}
 use Rattle.query_plan.specs.means_spec.Cells.{cell_in}
 
 -- ---- what a filter demands of each row that passes it
@@ -78,8 +77,14 @@ shows_own e ps row = true
 abbrev pub is_found : Option Entity → List Pin → Cells → Bool
 is_found e ps row = shows e (codes "certname") (demanded (codes "certname") ps) row && shows_own e ps row
 
-abbrev pub reach : World → Option Entity → List Pin → ℕ
-reach w e ps = length (filter (is_found e ps) (rows_in w e))
+-- the rows of the entity, if there is one
+abbrev pub entity_rows : (Entity → List Cells) → Option Entity → List Cells
+entity_rows rows None = []
+entity_rows rows (Some e) = rows e
+
+-- how many of them are in reach
+abbrev pub reach : (Entity → List Cells) → Option Entity → List Pin → ℕ
+reach rows e ps = length (filter (is_found e ps) (entity_rows rows e))
 
 -- ---- the facts that a filter names; those of inner levels are separate
 
@@ -112,10 +117,10 @@ clause_facts (clause f) = filter_facts f
 
 -- ---- the bound
 
-module _ (w : World) where
+module _ (rows : Entity → List Cells) where
   -- a level by itself: each row in reach, and for each the facts that are named
   abbrev pub level_reads : Option Entity → Clause → ℕ
-  level_reads e k = reach w e (clause_pins k) * (1 + length (clause_facts k))
+  level_reads e k = reach rows e (clause_pins k) * (1 + length (clause_facts k))
 
   -- all levels, each once
   abbrev mutual

@@ -5,7 +5,8 @@
 //! resources by their type and title. The bound (`specs/Reach.antt`) is a sum over the levels of a query, each counted once: the
 //! rows in reach, and for each of them a row for each fact that the level's filter names.
 //!
-//! [`pins_of`] reads the pins off the steps of a stage, and [`demand_on`] tells what they demand of a column.
+//! [`pins_of`] reads the pins off the steps of a stage, [`demand_on`] tells what they demand of a column, and [`facts_of`] lists the
+//! facts that the steps name.
 //!
 //! The main promises, [`plans_stay_in_reach`]: a stage chooses only rows in reach, whatever the stages before it found, and the
 //! stages of a plan together read what the bound of their query says. [`reach_is_least`] and [`bounds_are_small`] say what the
@@ -15,11 +16,13 @@
 #![tactic(auto)]
 
 mod demands;
+mod facts;
 mod laws;
 mod pins;
 
 pub use demands::{Demand, demand_on};
-pub use laws::plans_stay_in_reach;
+pub use facts::facts_of;
+pub use laws::{bounds_are_small, plans_stay_in_reach, reach_is_least};
 pub use pins::{Pin, Pins, pins_of};
 
 // Re-exports for the crates above.

@@ -1,12 +1,14 @@
 //! Reads off the steps of a stage which texts its rows show.
 ghost use Rattle.std.specs.Prelude.{◌≡◌, ◌++◌, ◌∷◌, [], IfOk, OnOk, reverse};
 ghost use Rattle.query_plan.specs.Made.{step_of, steps_of};
+ghost use Rattle.query_plan.specs.query_spec.declared.parts.Field.TheVariants.{Column as ColumnOf};
+ghost use Rattle.query_plan.specs.query_spec.declared.parts.Op.TheVariants.{Equal};
 ghost use Rattle.query_reach.specs.Reach.{pin_of};
 ghost use Rattle.query_reach.specs.Pins.{pin_act, step_pins};
 ghost use Rattle.query_reach.specs.Seen.{pins_seen};
 
-use query_plan::Step;
 use ast_tree::fleet_rows::json_tree::Text;
+use query_plan::Step;
 use query_plan::query_spec::{Field, Name, Op, Scalar};
 use std::alloc::{AllocError, Global};
 use std::marker::Model;
@@ -57,12 +59,51 @@ impl<'q> Pins<'q> {
     }
 
     // These pins, and then the others.
-    fn with(mut self, other: Pins<'q>) -> Result<Pins<'q>, AllocError>
-        ensures { IfOk result (λ pins. pins ≡ self ++ other) }
+    fn and(mut self, other: Pins<'q>) -> Result<Pins<'q>, AllocError>
+        ensures { IfOk result (λ pins. pins ≡ self.entry ++ other.entry) }
     {
         let Pins { mut list } = other;
         self.list.append(&mut list)?;
         Ok(self)
+    }
+}
+
+fn one<'q>(alloc: Global, column: &'q Name, text: &'q Text) -> Result<Pins<'q>, AllocError>
+    ensures { IfOk result (λ pins. pins ≡ record { column = column.now.text; text = text.now } ∷ []) }
+{
+    let mut list = Vec::new(alloc);
+    list.push(Pin { column, text })?;
+    Ok(Pins { list })
+}
+
+// What it demands that a column is a literal.
+fn column_is<'q>(
+    alloc: Global,
+    column: &'q Name,
+    literal: &'q Scalar,
+) -> Result<Pins<'q>, AllocError>
+    ensures { IfOk result (λ pins. pins ≡ pin_of Equal (ColumnOf column.now) literal.now) }
+{
+    match literal {
+        Scalar::Text(text) => one(alloc, column, text),
+        Scalar::Num(_) => Ok(Pins::none(alloc)),
+        Scalar::Bool(_) => Ok(Pins::none(alloc)),
+    }
+}
+
+fn field_is<'q>(
+    alloc: Global,
+    field: &'q Field,
+    literal: &'q Scalar,
+) -> Result<Pins<'q>, AllocError>
+    ensures { IfOk result (λ pins. pins ≡ pin_of Equal field.now literal.now) }
+{
+    match field {
+        Field::Column(column) => column_is(alloc, column, literal),
+        Field::Parameter(_) => Ok(Pins::none(alloc)),
+        Field::Fact(_) => Ok(Pins::none(alloc)),
+        Field::Tag(_) => Ok(Pins::none(alloc)),
+        Field::NodeState(_) => Ok(Pins::none(alloc)),
     }
 }
 
@@ -75,15 +116,13 @@ fn compared<'q>(
 ) -> Result<Pins<'q>, AllocError>
     ensures { IfOk result (λ pins. pins ≡ pin_of op field.now literal.now) }
 {
-    let mut list = Vec::new(alloc);
-    if let Op::Equal = op {
-        if let Field::Column(column) = field {
-            if let Scalar::Text(text) = literal {
-                list.push(Pin { column, text })?;
-            }
-        }
+    match op {
+        Op::Equal => field_is(alloc, field, literal),
+        Op::Less => Ok(Pins::none(alloc)),
+        Op::AtMost => Ok(Pins::none(alloc)),
+        Op::More => Ok(Pins::none(alloc)),
+        Op::AtLeast => Ok(Pins::none(alloc)),
     }
-    Ok(Pins { list })
 }
 
 fn push_none(alloc: Global, stack: &mut Vec<Pins<'_>>) -> Result<(), AllocError>
@@ -94,16 +133,12 @@ fn push_none(alloc: Global, stack: &mut Vec<Pins<'_>>) -> Result<(), AllocError>
 }
 
 // What is demanded after a step, for each boolean on the stack where it is true.
-fn pin_step<'q>(
-    alloc: Global,
-    step: &Step<'q>,
-    stack: &mut Vec<Pins<'q>>,
-) -> Result<(), AllocError>
+fn pin_step<'q>(alloc: Global, step: &Step<'q>, stack: &mut Vec<Pins<'q>>) -> Result<(), AllocError>
     ensures { OnOk result (reverse stack.new.items ≡ pin_act (step_of step.now) (reverse stack.old.items)) }
 {
     match step {
         Step::Compares(op, field, literal) => {
-            stack.push(compared(alloc, *op, field, literal)?)?;
+            stack.push(compared(alloc, *op, *field, *literal)?)?;
         }
         Step::TestsNull(_, _) => push_none(alloc, stack)?,
         Step::Lists(_, _) => push_none(alloc, stack)?,
@@ -119,7 +154,7 @@ fn pin_step<'q>(
         Step::Both => {
             if let Some(b) = stack.pop() {
                 if let Some(a) = stack.pop() {
-                    stack.push(a.with(b)?)?;
+                    stack.push(a.and(b)?)?;
                 }
             }
         }

@@ -82,7 +82,7 @@ pub(crate) fn text_in(cell: Option<&Cell>) -> Option<&Text>
 }
 
 /// The certname of the row's node.
-pub(crate) fn node_in(entity: Option<Entity>, row: &[Cell]) -> &str
+pub fn node_in(entity: Option<Entity>, row: &[Cell]) -> &str
     ensures { result.now ≡ node_in entity (cells_of row.now) }
 {
     match text_in(cell_in(entity, "certname", row)) {

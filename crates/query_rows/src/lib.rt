@@ -23,7 +23,7 @@ mod scene;
 mod seen;
 mod tuples;
 
-pub use cells::{cell_in, column_names, copy_or_null};
+pub use cells::{cell_in, column_names, copy_or_null, node_in};
 pub use compare::same_cell;
 pub use index::{Index, PlaceList};
 pub use known::{FactRows, Known, Lookup, fact_rows, known_of};

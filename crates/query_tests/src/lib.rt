@@ -1,5 +1,5 @@
 //! Tests of the languages of queries, and of what they are answered from tables: `ast_reader`, `pql_reader`, `query_answer`,
-//! `query_plain`, `paging_text` and `pattern_regex` over `fleet_tables`. Most cases are lines of text (`play.rt`): commands by their
+//! `query_engine`, `query_plain`, `paging_text` and `pattern_regex` over `fleet_tables`. Most cases are lines of text (`play.rt`): commands by their
 //! payloads, queries, and the rows or the refusal that each is told. There is nothing here but tests.
 #![tactic(auto)]
 
@@ -17,5 +17,7 @@ mod documented;
 mod play;
 #[cfg(test)]
 mod pql;
+#[cfg(test)]
+mod reach;
 #[cfg(test)]
 mod short_texts;

@@ -138,6 +138,17 @@ fn picked(alloc: Global, tables: &Tables, text: &str) -> Option<Picked> {
     }
 }
 
+// The text of the rows that reading all rows gives, if the text is a query of the AST that is answered.
+fn plain_text(alloc: Global, tables: &Tables, text: &[u8]) -> Result<Option<Bytes>, AllocError> {
+    let Ok(query) = read_ast(alloc, text) else {
+        return Ok(None);
+    };
+    match select_plain(alloc, tables, &query, &mut RegexPatterns::new(alloc)) {
+        Ok(picked) => Ok(Some(write_rows(alloc, &picked.rows)?)),
+        Err(_) => Ok(None),
+    }
+}
+
 // The number of all rows, and those of the page.
 fn page_text(alloc: Global, picked: Picked, paging: &Paging) -> Result<Bytes, AllocError> {
     let page = page(picked.rows, paging)?;
@@ -217,19 +228,27 @@ impl Fleet {
         }
     }
 
+    // Whether reading all rows gives the same rows, if the text is a query of the AST that is answered.
+    fn is_told_plainly(&self, text: &[u8]) -> Result<bool, AllocError> {
+        match plain_text(self.alloc, &self.tables, text)? {
+            Some(plain) => Ok(plain.as_slice() == self.told.as_slice()),
+            None => Ok(true),
+        }
+    }
+
     /// Asks a whole query in either language.
     pub(crate) fn ask(&mut self, text: &[u8]) -> Result<bool, AllocError> {
         let mut patterns = RegexPatterns::new(self.alloc);
         let answer = answer_text(self.alloc, &self.tables, text, &mut patterns);
         self.told = text_of(self.alloc, answer)?;
-        Ok(true)
+        self.is_told_plainly(text)
     }
 
     fn ask_ast(&mut self, text: &[u8]) -> Result<bool, AllocError> {
         let mut patterns = RegexPatterns::new(self.alloc);
         let answer = answer_ast(self.alloc, &self.tables, text, &mut patterns);
         self.told = text_of(self.alloc, answer)?;
-        Ok(true)
+        self.is_told_plainly(text)
     }
 
     // Asks the rows of an entity, or applies a command.
@@ -252,7 +271,7 @@ impl Fleet {
     }
 
     // Whether the line's command was taken, or what it says was told.
-    fn step(&mut self, word: &str, text: &str) -> Result<bool, AllocError> {
+    pub(crate) fn step(&mut self, word: &str, text: &str) -> Result<bool, AllocError> {
         match word {
             "fleet" => self.tables = Tables::new(self.alloc, Ttls::default_lifetimes()),
             "expire" => return Ok(expire(&mut self.tables, text)),
@@ -275,7 +294,7 @@ impl Fleet {
 ///
 /// `fleet` begins with tables of no node. `facts`, `catalog`, `report` and `deactivate` apply a command by its payload, and `expire`
 /// is a sweep of expiry at a stamp. `ask` is a whole query in either language, `ast` one in the AST, and the name of an entity
-/// asks for its rows in the AST. `told` is what the last question was told: the rows, or the refusal. `course` asks, and is told
+/// asks for its rows in the AST. Whatever `ask` and `ast` are told in the AST, reading all rows tells too. `told` is what the last question was told: the rows, or the refusal. `course` asks, and is told
 /// what a reader of patterns was asked. `page` asks a query by the paging of another one. `repeat` asks the parts between bars, each
 /// second one so many times; `tells` repeats what is told so.
 pub(crate) fn play(rt: &impl Abort, alloc: Global, lines: &str) -> Result<(), AllocError> {

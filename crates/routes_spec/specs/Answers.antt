@@ -11,7 +11,7 @@ use Rattle.query_answer.specs.means_spec.Sums.{too_large}
 use Rattle.query_answer.specs.means_spec.World.{World}
 use Rattle.query_answer.specs.pattern_port.Refused.{Asked}
 use Rattle.query_answer.specs.query_plan.Plan.{level_patterns}
-use Rattle.query_answer.specs.query_plain.Answers.{taken, IsFirstRefused}
+use Rattle.query_answer.specs.query_engine.Answers.{taken, IsFirstRefused}
 use Rattle.query_answer.specs.RefusalText.{refusal_text}
 use Rattle.query_answer.specs.Told.{Told}
 use Rattle.query_answer.specs.declared.refusal.QueryRefusal.TheVariants.{BadPattern, SumTooLarge}

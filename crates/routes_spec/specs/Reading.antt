@@ -4,7 +4,7 @@ use Rattle.http_spec.specs.declared.request.Request.{Request}
 use Rattle.query_answer.specs.query_spec.Query.{Level}
 use Rattle.query_answer.specs.pattern_port.Refused.{Asked}
 use Rattle.query_answer.specs.query_plan.Plan.{level_patterns}
-use Rattle.query_answer.specs.query_plain.Answers.{IsFrontRead}
+use Rattle.query_answer.specs.query_engine.Answers.{IsFrontRead}
 use Rattle.routes_spec.specs.Parameters.{parameters_of}
 use Rattle.routes_spec.specs.Queries.{Question, IsQuestion, IsToldOn}
 use Rattle.routes_spec.specs.Routes.{route_at, path_of, query_of, takes_method}

@@ -6,7 +6,7 @@ use Rattle.spool_run.specs.history_spec.Trace.{Trace}
 use Rattle.core_inbox.specs.link_serving.means_spec.OutRows.{lines_text}
 use Rattle.core_inbox.specs.link_serving.means_spec.World as meant
 use Rattle.core_inbox.specs.link_serving.paging_text.Shown.{written_text}
-use Rattle.core_inbox.specs.link_serving.query_plain.Tables as table
+use Rattle.core_inbox.specs.link_serving.query_engine.Tables as table
 use Rattle.core_inbox.specs.link_serving.Serving.{FrontSeen, front_seen}
 use Rattle.core_inbox.specs.link_serving.declared.end.ServeEnd.TheVariants.{FrontFault}
 use Rattle.core_inbox.specs.Intake.{ServesCore}

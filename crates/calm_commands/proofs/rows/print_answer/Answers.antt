@@ -1,7 +1,7 @@
 use Rattle.std.proofs.Common.{List, ℕ, [], ◌∷◌, ◌++◌, sym, subst}
 use Rattle.query_answer.specs.means_spec.World as spec
 use Rattle.query_answer.specs.paging_text.Shown.{written_text}
-use Rattle.query_answer.specs.query_plain.Tables.{world_of}
+use Rattle.query_answer.specs.query_engine.Tables.{world_of}
 use Rattle.calm_commands.specs.declared.status.Status.{Status}
 use Rattle.query_answer.specs.Told.{told_of}
 use Rattle.calm_commands.specs.Rows.{PrintsText, AnswersText}

@@ -1,6 +1,6 @@
 use Rattle.std.proofs.Common.{arith, rules}
 use Rattle.std.specs.Prelude.{codes}
-use Rattle.query_plain.specs.Tables.{world_of}
+use Rattle.query_engine.specs.Tables.{world_of}
 use Rattle.routes_spec.specs.Answers.{error}
 use Rattle.http_routes.proofs.Asking.{question_asked, nothing_asked, not_asked}
 use Rattle.http_routes.proofs.Results.{has_code}

@@ -1,6 +1,6 @@
 use Rattle.std.proofs.Common.{refl, arith, Some, None, Err}
 use Rattle.std.specs.Prelude.{codes}
-use Rattle.query_plain.specs.Tables.{world_of}
+use Rattle.query_engine.specs.Tables.{world_of}
 use Rattle.routes_spec.specs.query_answer.RefusalText.{refusal_text}
 use Rattle.routes_spec.specs.Answers.{error}
 use Rattle.http_routes.proofs.Asking.{rows_asked, none_asked}

@@ -1,6 +1,6 @@
 use Rattle.std.proofs.Common.{◌∙◌, sym}
 use Rattle.paging_text.specs.Shown.{written_text}
-use Rattle.query_plain.specs.Tables.{world_of}
+use Rattle.query_engine.specs.Tables.{world_of}
 use Rattle.http_routes.specs.Inbox.{Takes}
 use Rattle.http_routes.proofs.Answering.{routed_answered, no_path, bad_method}
 use Rattle.http_routes.proofs.link.answered.Goals as goal

@@ -1,6 +1,6 @@
 use Rattle.std.proofs.Common.{subst}
 use Rattle.paging_text.specs.Shown.{written_text}
-use Rattle.query_plain.specs.Tables.{world_of}
+use Rattle.query_engine.specs.Tables.{world_of}
 use Rattle.routes_spec.specs.Reading.{IsReadOn}
 use Rattle.http_routes.specs.Inbox.{Takes}
 use Rattle.http_routes.specs.Moves.{Answers, IsAskMet, IsAskAnswer}

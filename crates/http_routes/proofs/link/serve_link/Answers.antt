@@ -2,7 +2,7 @@ use Rattle.std.proofs.Common.{◌≡◌, ◌∙◌, ◌<◌, sym, ap, subst, ref
 use Rattle.http_front.specs.Link.{limited}
 use Rattle.http_front.specs.Next.{unread}
 use Rattle.paging_text.specs.Shown.{written_text}
-use Rattle.query_plain.specs.Tables.{world_of}
+use Rattle.query_engine.specs.Tables.{world_of}
 use Rattle.http_routes.specs.Inbox.{Takes}
 use Rattle.http_routes.specs.Course.{outside, Continues, GoesSoFar, AreFewIfTold}
 use Rattle.http_routes.specs.declared.link.LinkEnd.TheVariants.{Closed}

@@ -1,5 +1,5 @@
 use Rattle.http_routes.specs.paging_text.Shown.{written_text}
-use Rattle.http_routes.specs.query_plain.Tables.{world_of}
+use Rattle.http_routes.specs.query_engine.Tables.{world_of}
 use Rattle.http_routes.specs.Course.{outside}
 use Rattle.http_routes.specs.Inbox.{Takes}
 use Rattle.front_port.specs.Links.{Given}

@@ -1,6 +1,6 @@
 use Rattle.std.proofs.Common.{◌≡◌, ◌∙◌, ◌<◌, [], Some, refl, ap, arith}
 use Rattle.http_routes.specs.paging_text.Shown.{written_text}
-use Rattle.http_routes.specs.query_plain.Tables.{world_of}
+use Rattle.http_routes.specs.query_engine.Tables.{world_of}
 use Rattle.http_routes.specs.Course.{outside}
 use Rattle.http_routes.specs.Inbox.{Takes}
 use Rattle.http_routes.proofs.LinkCourses.{same_world, counts_from, counts_none}

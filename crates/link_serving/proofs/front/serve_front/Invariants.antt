@@ -1,7 +1,7 @@
 -- So far each link that was handed out was served, as many as there were turns.
 use Rattle.std.proofs.Common.{◌≡◌, ℕ, List, length}
 use Rattle.http_routes.specs.paging_text.Shown.{written_text}
-use Rattle.http_routes.specs.query_plain.Tables.{world_of}
+use Rattle.http_routes.specs.query_engine.Tables.{world_of}
 use Rattle.http_routes.specs.Course.{outside}
 use Rattle.http_routes.specs.Inbox.{Takes}
 use Rattle.front_port.specs.Links.{Given}

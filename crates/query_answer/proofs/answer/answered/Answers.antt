@@ -1,11 +1,11 @@
 use Rattle.std.proofs.Common.{refl, sym, ap, subst, Err}
-use Rattle.query_plain.specs.fleet_ports.Counts.{Counts}
+use Rattle.query_engine.specs.fleet_ports.Counts.{Counts}
 use Rattle.ast_reader.specs.query_spec.Answer.{AnswerOf}
 use Rattle.ast_reader.specs.Answered.{AnsweredAs}
 use Rattle.means_laws.specs.means_spec.OutRows.{lines_text}
 use Rattle.means_laws.specs.means_spec.World as spec
 use Rattle.means_laws.specs.paging_text.Shown.{written_text}
-use Rattle.query_plain.specs.Tables.{world_of}
+use Rattle.query_engine.specs.Tables.{world_of}
 use Rattle.query_answer.specs.Told.{in_ast}
 use Rattle.query_answer.specs.Answers.{IsUntold, IsPatternFault}
 use Rattle.query_answer.proofs.Answered.{text_told, fault_told, counts_stay}

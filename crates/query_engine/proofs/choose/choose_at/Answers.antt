@@ -1,0 +1,30 @@
+use Rattle.std.proofs.Common.{◌≡◌, ◌∙◌, ◌++◌, ◌∷◌, [], ℕ, List, Bool, Some, Option, map, ap, sym, subst}
+use Rattle.std.specs.Prelude.{filter, slice_get}
+use Rattle.std.specs.List.{AllByRecursion}
+use Rattle.std.proofs.lemmas.Result.{IfOk-weaker}
+use Rattle.fleet_tables.specs.Asked.{is_inactive_in}
+use Rattle.fleet_tables.specs.fleet_rows.declared.row.Entity.{Entity}
+use Rattle.fleet_tables.specs.fleet_rows.declared.row.Entity.TheVariants.{Facts}
+use Rattle.fleet_tables.specs.table_machine.Rows.{table_rows}
+use Rattle.query_plan.specs.means_spec.Cells.{node_in}
+use Rattle.query_plan.specs.table_spec.Rows.{Cells}
+use Rattle.query_plan.specs.Made.{stage_of}
+use Rattle.query_plan.specs.Plan.{is_chosen}
+use Rattle.query_reach.specs.Seen.{texts_seen}
+use Rattle.query_engine.specs.Fetched.{SameFact, fetched, one_in}
+use Rattle.query_engine.proofs.FactLaws.{row_alike}
+use Rattle.query_engine.proofs.FetchedLaws.{fetched_serve}
+use Rattle.query_engine.proofs.RowReads.{chosen_at}
+use Rattle.query_engine.proofs.choose.choose_at.Goals as goal
+
+pub returns-clause-value : goal.returns-clause-value
+returns-clause-value g c =
+    let ps : List (List ℕ) = map (λ x. g.P.Patterns.made_from x) c.args.compiled.now in
+    let says : List ℕ → List ℕ → Bool = g.P.Patterns.says c.args.patterns.now in
+    IfOk-weaker c.choose.result _ _
+    (λ u h. h
+    ∙ ap (λ l. c.args.chosen.now ++ l)
+    (chosen_at c.args.tables.now says ps c.args.found.now (stage_of c.args.stage.now) c.args.entity c.requires.entity c.in_ok-facts.facts (texts_seen c.args.names.now) c.requires.names c.args.place
+    c.in_ok-row.row.cells (c.in_ok-facts.ensures.value ∙ ap (λ row. fetched (node_in (Some c.args.entity) row) (table_rows Facts c.args.tables.now) (texts_seen c.args.names.now)) c.as_slice.ensures)
+    c.in_ok-row.ensures.row.1))
+    c.choose.ensures.value

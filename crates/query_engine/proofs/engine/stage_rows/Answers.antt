@@ -1,0 +1,42 @@
+use Rattle.std.proofs.Common.{◌∙◌, ℕ, List, Bool, map, ap}
+use Rattle.std.proofs.lemmas.Result.{IfOk-weaker}
+use Rattle.query_plan.specs.Made.{shape_of, stage_of}
+use Rattle.query_reach.specs.Pins.{steps_facts}
+use Rattle.query_reach.specs.Seen.{texts_seen}
+use Rattle.query_rows.specs.Tables.{world_of}
+use Rattle.query_engine.proofs.RowReads.{pins_imply, stage_cost}
+use Rattle.query_engine.proofs.Stages.{stage_answered}
+use Rattle.query_engine.proofs.engine.stage_rows.Goals as goal
+
+pub chosen_rows-requires-clause-names : goal.chosen_rows-requires-clause-names
+chosen_rows-requires-clause-names g c =
+    ap texts_seen c.as_slice-named.ensures.value ∙ c.in_ok-names.ensures ∙ ap steps_facts c.as_slice-list.ensures
+
+pub chosen_rows-requires-clause-implied : goal.chosen_rows-requires-clause-implied
+chosen_rows-requires-clause-implied g c =
+    let ps : List (List ℕ) = map (λ x. g.P.Patterns.made_from x) c.args.compiled.now in
+    let says : List ℕ → List ℕ → Bool = g.P.Patterns.says c.args.patterns.now in
+    pins_imply (world_of c.args.tables.now says) ps c.args.found.now (stage_of c.args.stage.now) c.args.reading _ _ c.as_slice-list.ensures c.in_ok-pins.ensures
+
+pub returns-in-Whole-clause-cost : goal.returns-in-Whole-clause-cost
+returns-in-Whole-clause-cost g c =
+    stage_cost _ (stage_of c.args.stage.now) c.args.reading _ _ _ _ _ c.as_slice-list.ensures c.in_ok-pins.ensures
+    (ap texts_seen c.as_slice-named.ensures.value ∙ c.in_ok-names.ensures) c.in_ok-rows.ensures.cost
+
+pub returns-clause-cost : goal.returns-clause-cost
+returns-clause-cost g c =
+    stage_cost _ (stage_of c.args.stage.now) c.args.reading _ _ _ _ _ c.as_slice-list.ensures c.in_ok-pins.ensures
+    (ap texts_seen c.as_slice-named.ensures.value ∙ c.in_ok-names.ensures) c.in_ok-rows.ensures.cost
+
+pub returns-in_err-rows-clause-cost : goal.returns-in_err-rows-clause-cost
+returns-in_err-rows-clause-cost g c =
+    stage_cost _ (stage_of c.args.stage.now) c.args.reading _ _ _ _ _ c.as_slice-list.ensures c.in_ok-pins.ensures
+    (ap texts_seen c.as_slice-named.ensures.value ∙ c.in_ok-names.ensures) c.in_err-rows.ensures.cost
+
+pub returns-clause-value : goal.returns-clause-value
+returns-clause-value g c =
+    let ps : List (List ℕ) = map (λ x. g.P.Patterns.made_from x) c.args.compiled.now in
+    let says : List ℕ → List ℕ → Bool = g.P.Patterns.says c.args.patterns.now in
+    IfOk-weaker c.answer_of.result _ _
+    (stage_answered (world_of c.args.tables.now says) ps c.args.found.now (stage_of c.args.stage.now) _ _ _ c.in_ok-rows.rows (ap shape_of c.in-Answers.is) c.in_ok-rows.ensures.value)
+    c.answer_of.ensures

@@ -1,0 +1,207 @@
+//! Finds the rows that a stage chooses.
+ghost use Rattle.std.specs.Prelude.{◌≡◌, ◌++◌, ◌∷◌, ◌+◌, ◌*◌, ◌<◌, ◌≤◌, [], ℕ, List, map, length, IfOk, OnOk, Some, filter, true};
+ghost use Rattle.fleet_tables.specs.fleet_rows.Cell.{cells_of};
+ghost use Rattle.query_plan.specs.Plan.{chosen_rows, is_chosen};
+ghost use Rattle.query_plan.specs.Made.{stage_of};
+ghost use Rattle.query_plan.specs.table_spec.Rows.{Cells as CellsValue};
+ghost use Rattle.fleet_tables.specs.table_machine.Rows.{table_rows};
+ghost use Rattle.query_reach.specs.Reach.{is_found, reach};
+ghost use Rattle.query_reach.specs.Pins.{steps_facts};
+ghost use Rattle.query_reach.specs.Seen.{texts_seen};
+ghost use Rattle.query_rows.specs.Tries.{HasTried};
+ghost use Rattle.query_rows.specs.Scenes.{world};
+ghost use Rattle.query_rows.specs.Tables.{world_of};
+ghost use Rattle.query_engine.specs.Fetched.{slice_one};
+
+use crate::facts::facts_for;
+use crate::reading::places_in_reach;
+use fleet_tables::fleet_rows::{Cell, Cells, Entity};
+use fleet_tables::{Steps, Tables};
+use paging_text::Lines;
+use pattern_port::Patterns;
+use query_plan::Stage;
+use query_reach::Pins;
+use query_rows::{Known, Ready, Scene, holds, is_seen};
+use same_text::json_tree::Text;
+use std::alloc::{AllocError, Global};
+use std::sync::ledger::Ledger;
+
+fn is_chosen<P: Patterns>(
+    scene: &Scene,
+    patterns: &mut P,
+    compiled: &[P::Compiled],
+    found: &[Known],
+    stage: &Stage,
+    steps: &[Ready],
+    row: &[Cell],
+) -> Result<bool, AllocError>
+    requires { steps.now ≡ stage.now.steps }
+    ensures same { (p t : List ℕ) → P.says patterns.new p t ≡ P.says patterns.old p t }
+    ensures calm { P.refusals patterns.new ≡ P.refusals patterns.old }
+    ensures silent { P.asked patterns.new ≡ P.asked patterns.old }
+    ensures tried { HasTried (P.course patterns.old) (P.course patterns.new) }
+    ensures value { IfOk result (λ b. b ≡ is_chosen (world scene.now (P.says patterns.old)) (map (λ c. P.made_from c) compiled.now) found.now
+        (stage_of stage.now) (cells_of row.now)) }
+{
+    if holds(scene, stage.entity, row, patterns, compiled, found, steps)? {
+        is_seen(scene, stage.entity, stage.state, row)
+    } else {
+        Ok(false)
+    }
+}
+
+// Appends the row if the stage chooses it.
+fn choose<P: Patterns>(
+    scene: &Scene,
+    patterns: &mut P,
+    compiled: &[P::Compiled],
+    found: &[Known],
+    stage: &Stage,
+    steps: &[Ready],
+    row: Cells,
+    chosen: &mut Lines,
+) -> Result<(), AllocError>
+    requires { steps.now ≡ stage.now.steps }
+    ensures same { (p t : List ℕ) → P.says patterns.new p t ≡ P.says patterns.old p t }
+    ensures calm { P.refusals patterns.new ≡ P.refusals patterns.old }
+    ensures silent { P.asked patterns.new ≡ P.asked patterns.old }
+    ensures tried { HasTried (P.course patterns.old) (P.course patterns.new) }
+    ensures value { OnOk result (chosen.new ≡ chosen.old ++ filter
+        (is_chosen (world scene.now (P.says patterns.old)) (map (λ c. P.made_from c) compiled.now) found.now (stage_of stage.now)) (row ∷ [])) }
+{
+    if is_chosen(
+        scene,
+        patterns,
+        compiled,
+        found,
+        stage,
+        steps,
+        row.as_slice(),
+    )? {
+        chosen.push(row)?;
+    }
+    Ok(())
+}
+
+// Appends the row at a place if the stage chooses it. It reads the row, and a row for each fact that the stage's filter names.
+#[tactic(auto, using(query_rows::proofs::TryLaws::tried_nothing))]
+fn choose_at<L: Ledger, P: Patterns>(
+    alloc: Global,
+    tables: &Tables,
+    patterns: &mut P,
+    compiled: &[P::Compiled],
+    found: &[Known],
+    stage: &Stage,
+    steps: &[Ready],
+    names: &[&Text],
+    entity: Entity,
+    place: usize,
+    chosen: &mut Lines,
+    walk: &mut Steps<L>,
+) -> Result<(), AllocError>
+    requires steps { steps.now ≡ stage.now.steps }
+    requires names { texts_seen names.now ≡ steps_facts stage.now.steps }
+    requires entity { stage.now.entity ≡ Some entity }
+    requires place { place < length (table_rows entity tables.now) }
+    ensures same { (p t : List ℕ) → P.says patterns.new p t ≡ P.says patterns.old p t }
+    ensures calm { P.refusals patterns.new ≡ P.refusals patterns.old }
+    ensures silent { P.asked patterns.new ≡ P.asked patterns.old }
+    ensures tried { HasTried (P.course patterns.old) (P.course patterns.new) }
+    ensures cost { walk.new ≤ walk.old + (1 + length names.now) }
+    ensures value { OnOk result (chosen.new ≡ chosen.old ++ filter (is_chosen (world_of tables.now (P.says patterns.old))
+        (map (λ c. P.made_from c) compiled.now) found.now (stage_of stage.now)) (slice_one (table_rows entity tables.now) place)) }
+{
+    let row = tables.row(entity, place, walk)?;
+    let facts = facts_for(alloc, tables, entity, row.cells.as_slice(), names, walk)?;
+    let scene = Scene {
+        alloc,
+        tables,
+        facts: &facts,
+    };
+    choose(
+        &scene, patterns, compiled, found, stage, steps, row.cells, chosen,
+    )
+}
+
+// The chosen rows of an entity, read by the places of the rows in reach of the pins.
+#[tactic(auto, using(query_rows::proofs::TryLaws::tried_nothing, query_rows::proofs::TryLaws::tried_then))]
+fn chosen_of<L: Ledger, P: Patterns>(
+    alloc: Global,
+    tables: &Tables,
+    patterns: &mut P,
+    compiled: &[P::Compiled],
+    found: &[Known],
+    stage: &Stage,
+    steps: &[Ready],
+    names: &[&Text],
+    pins: &Pins,
+    entity: Entity,
+    walk: &mut Steps<L>,
+) -> Result<Lines, AllocError>
+    requires steps { steps.now ≡ stage.now.steps }
+    requires names { texts_seen names.now ≡ steps_facts stage.now.steps }
+    requires entity { stage.now.entity ≡ Some entity }
+    requires implied { (row : CellsValue) → is_chosen (world_of tables.now (P.says patterns.old)) (map (λ c. P.made_from c) compiled.now) found.now
+        (stage_of stage.now) row ≡ true → is_found (Some entity) pins.now row ≡ true }
+    ensures same { (p t : List ℕ) → P.says patterns.new p t ≡ P.says patterns.old p t }
+    ensures calm { P.refusals patterns.new ≡ P.refusals patterns.old }
+    ensures silent { P.asked patterns.new ≡ P.asked patterns.old }
+    ensures tried { HasTried (P.course patterns.old) (P.course patterns.new) }
+    ensures cost { walk.new ≤ walk.old + length (filter (is_found (Some entity) pins.now) (table_rows entity tables.now)) * (1 + length names.now) }
+    ensures value { IfOk result (λ rows. rows ≡ filter (is_chosen (world_of tables.now (P.says patterns.old))
+        (map (λ c. P.made_from c) compiled.now) found.now (stage_of stage.now)) (table_rows entity tables.now)) }
+{
+    let places = places_in_reach(alloc, tables, entity, pins.as_slice())?;
+    let mut chosen = Lines::new(alloc);
+    'reading: for i in 0..places.len() {
+        choose_at(
+            alloc,
+            tables,
+            patterns,
+            compiled,
+            found,
+            stage,
+            steps,
+            names,
+            entity,
+            places[i],
+            &mut chosen,
+            walk,
+        )?;
+    }
+    Ok(chosen)
+}
+
+/// The rows that the stage chooses. `found` has the rows of the levels before it. Only rows in reach of the pins are read.
+#[tactic(auto, using(query_rows::proofs::TryLaws::tried_nothing))]
+pub(crate) fn chosen_rows<L: Ledger, P: Patterns>(
+    alloc: Global,
+    tables: &Tables,
+    patterns: &mut P,
+    compiled: &[P::Compiled],
+    found: &[Known],
+    stage: &Stage,
+    steps: &[Ready],
+    names: &[&Text],
+    pins: &Pins,
+    walk: &mut Steps<L>,
+) -> Result<Lines, AllocError>
+    requires steps { steps.now ≡ stage.now.steps }
+    requires names { texts_seen names.now ≡ steps_facts stage.now.steps }
+    requires implied { (row : CellsValue) → is_chosen (world_of tables.now (P.says patterns.old)) (map (λ c. P.made_from c) compiled.now) found.now
+        (stage_of stage.now) row ≡ true → is_found stage.now.entity pins.now row ≡ true }
+    ensures same { (p t : List ℕ) → P.says patterns.new p t ≡ P.says patterns.old p t }
+    ensures calm { P.refusals patterns.new ≡ P.refusals patterns.old }
+    ensures silent { P.asked patterns.new ≡ P.asked patterns.old }
+    ensures tried { HasTried (P.course patterns.old) (P.course patterns.new) }
+    ensures cost { walk.new ≤ walk.old + reach (λ e. table_rows e tables.now) stage.now.entity pins.now * (1 + length names.now) }
+    ensures value { IfOk result (λ rows. rows ≡ chosen_rows (world_of tables.now (P.says patterns.old))
+        (map (λ c. P.made_from c) compiled.now) found.now (stage_of stage.now)) }
+{
+    match stage.entity {
+        None => Ok(Lines::new(alloc)),
+        Some(entity) => chosen_of(
+            alloc, tables, patterns, compiled, found, stage, steps, names, pins, entity, walk,
+        ),
+    }
+}

@@ -1,0 +1,40 @@
+//! Evaluates queries on the tables, and reads no more rows than it needs.
+//!
+//! [`select`] makes the plan of a query, compiles its patterns in preorder, and then finds the rows of each level once, inner
+//! levels first. It returns [`Picked`] rows with the names of their columns, or a [`QueryFault`]. No recursion goes over rows.
+//!
+//! The main guarantees: Ok has exactly the rows that the query means, in order (`means_spec`, after PuppetDB's query API v4). A sum
+//! that overflows 128 bits is reported exactly if the definition reports one, with the same place. The rows that are read are at
+//! most those of the query's bound (`query_reach`). Contracts see the tables as a world of queries (`query_rows`).
+//!
+//! A level reads the rows that show what its filter demands of certnames, names of facts, types and titles; the tables find their
+//! places without reading a row. Each other row would fail the filter. [`select_reading`] can read all rows instead. A fact that a
+//! filter names is one row more for each row that is read.
+//!
+//! Each step of a filter tests a single row. The rows of a level within `in` or `subquery`, and the literals of a long array, are
+//! indexed by a text once. So a row is compared with few of them. Grouping n rows takes n log n steps.
+//!
+//! The clauses of [`select`]:
+//! - SumTooLarge has the position of the first sum that overflows, BadPattern that of one of the query's patterns (`answer`,
+//!   `stands`). If the pattern reader tells what it read, it is the first pattern refused (`asked`, `course`).
+//! - The pattern reader counts BadPattern (`cause`). What patterns match stays (`same`). `bound` holds of each answer.
+//!
+//! Costs: rows are copied one by one. The places of a level's rows take 8 bytes each. An array of more than eight literals is
+//! indexed. Activity is asked only of rows that pass the filter.
+#![tactic(auto)]
+
+mod answer;
+mod choose;
+mod engine;
+mod facts;
+mod functions;
+mod groups;
+mod reading;
+mod shown;
+mod sums;
+
+pub use engine::{Picked, QueryFault, select, select_reading, select_uncounted};
+pub use reading::Reading;
+
+// Re-exports for the crates above.
+pub use fleet_tables::{Steps, Tables};
