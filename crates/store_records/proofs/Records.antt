@@ -17,10 +17,10 @@ use Rattle.record_fields.proofs.Joins.{both, respelled}
 use Rattle.record_fields.proofs.Parts.{number64}
 use Rattle.record_fields.proofs.Moments.{moments}
 use Rattle.store_records.specs.Reading.{whole, Days, lifetimes_at, make_settings, settings_at, make_limits, limits_at, make_base, base_at, make_marks, marks_at, kinds_with, kinds_at, make_swept, swept_at, make_applied, applied_at, make_received, received_at, store_at}
-use Rattle.store_records.specs.Fields.{certname_at, between_at}
-use Rattle.store_records.specs.Changes.{change_at}
-use Rattle.store_records.proofs.Singles.{IsBetween, certnames, betweens, if_longs, if_moments}
-use Rattle.store_records.proofs.Changes.{changes}
+use Rattle.record_values.specs.Fields.{certname_at, between_at}
+use Rattle.change_reader.specs.Changes.{change_at}
+use Rattle.record_values.proofs.Singles.{IsBetween, certnames, betweens, if_longs, if_moments}
+use Rattle.change_reader.proofs.Changes.{changes}
 use Rattle.json_read.specs.stamp_time.Limits.{most_days}
 
 abbrev Reads : List ℕ → StoreRecord → Type 0

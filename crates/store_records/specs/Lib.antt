@@ -1,6 +1,3 @@
-pub mod Fields
-pub mod Lists
-pub mod Changes
 pub mod Laws
 pub mod Reading
 pub mod Written

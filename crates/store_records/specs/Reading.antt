@@ -6,8 +6,8 @@ use Rattle.wire_catalog.specs.fleet_rows.declared.settings.Kinds.{Kinds}
 use Rattle.record_fields.specs.record_spec.declared.store.StoreRecord.{StoreRecord}
 use Rattle.record_fields.specs.record_spec.declared.store.StoreRecord.TheVariants as store
 use Rattle.record_fields.specs.Reading.{◌>>=◌, Reader, read_as, both_at, ended, number_at, moment_at, optional_at}
-use Rattle.store_records.specs.Fields.{certname_at, between_at}
-use Rattle.store_records.specs.Changes.{change_at}
+use Rattle.record_values.specs.Fields.{certname_at, between_at}
+use Rattle.change_reader.specs.Changes.{change_at}
 use Rattle.json_read.specs.stamp_time.Limits.{most_days}
 
 -- the value, if no bytes are left

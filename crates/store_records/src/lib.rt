@@ -20,18 +20,8 @@
 //! edges cost n log n steps, tags one pass.
 #![tactic(auto)]
 
-mod catalog;
-mod change;
-mod distinct;
-mod json;
 mod laws;
-mod list;
-mod put;
 mod read;
-mod report;
-mod resource;
-mod short;
-mod value;
 mod write;
 
 pub use laws::{

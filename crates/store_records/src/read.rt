@@ -6,12 +6,12 @@ ghost use Rattle.record_fields.specs.Reading.{Shows};
 ghost use Rattle.store_records.specs.Reading.{whole, kinds_at, lifetimes_at, settings_at, limits_at, base_at, marks_at, swept_at, applied_at};
 ghost use Rattle.store_records.specs.Reading.{received_at, store_at};
 
-use crate::change::take_change;
-use crate::value::{take_between, take_certname, take_optional_moment, take_optional_u64};
+use change_reader::take_change;
 use json_read::json_tree::Text;
 use json_read::stamp_time::MOST_DAYS;
 use record_fields::record_spec::StoreRecord;
 use record_fields::{take_moment, take_u64};
+use record_values::{take_between, take_certname, take_optional_moment, take_optional_u64};
 use std::alloc::{AllocError, Global};
 use wire_catalog::fleet_rows::{Kinds, Mark};
 

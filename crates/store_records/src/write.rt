@@ -2,21 +2,21 @@
 ghost use Rattle.std.specs.Prelude.{◌≡◌, ◌++◌, ◌∷◌, ◌<◌, ◌^◌, [], length, IfOk, OnOk};
 ghost use Rattle.std.specs.List.{AllByRecursion};
 ghost use Rattle.wire_catalog.specs.fleet_rows.Change.{change_kind, kind_number};
-ghost use Rattle.record_fields.specs.history_spec.Lawful.{IsEdge, IsResource, IsFactsChange, IsCatalogChange, IsReportChange, IsDeactivateChange};
+ghost use Rattle.record_fields.specs.history_spec.Lawful.{IsExpirationChange, IsChange};
 ghost use Rattle.record_fields.specs.history_spec.Lawful.{IsExpirationChange, IsChange};
 ghost use Rattle.record_fields.specs.record_spec.Parts.{bytes_text, bool_text, optional, long_text, moment_text, list_text, kinds_number};
-ghost use Rattle.record_fields.specs.record_spec.Changes.{facts_text, edge_text, resource_text, catalog_text, report_bytes, deactivate_text};
+ghost use Rattle.record_fields.specs.record_spec.Changes.{expiration_text, change_text};
 ghost use Rattle.record_fields.specs.record_spec.Changes.{expiration_text, change_text};
 ghost use Rattle.record_fields.specs.record_spec.Store.{days_text, store_text, IsStoreRecord};
 ghost use Rattle.store_records.specs.Written.{catalog_head, catalog_marks, report_head, report_times, report_run};
 
-use crate::put::{
-    put_members, put_optional_bool, put_optional_moment, put_optional_text, put_optional_u64,
-    put_text, put_texts, put_values,
-};
 use json_read::json_tree::Bytes;
 use record_fields::record_spec::StoreRecord;
 use record_fields::{put_bool, put_bytes, put_moment, put_u32, put_u64};
+use record_values::{
+    put_members, put_optional_bool, put_optional_moment, put_optional_text, put_optional_u64,
+    put_text, put_texts, put_values,
+};
 use std::alloc::{AllocError, Global};
 use wire_catalog::fleet_rows::{
     CatalogChange, Change, DeactivateChange, Edge, ExpirationChange, FactsChange, Kinds,
@@ -36,7 +36,7 @@ fn put_facts(out: &mut Vec<u8>, change: &FactsChange) -> Result<(), AllocError>
     Ok(())
 }
 
-#[tactic(auto, using(crate::proofs::Singles::name_counted))]
+#[tactic(auto, using(change_reader::proofs::Relationships::name_counted))]
 fn put_edge(out: &mut Vec<u8>, edge: &Edge) -> Result<(), AllocError>
     requires { IsEdge edge.now }
     ensures { OnOk result (out.new.items ≡ out.old.items ++ edge_text edge.now) }

@@ -1,0 +1,4 @@
+pub mod Relationships
+pub mod Together
+pub mod Reports
+pub mod Changes

@@ -1,0 +1,3 @@
+pub mod Relationships
+pub mod Together
+pub mod Changes

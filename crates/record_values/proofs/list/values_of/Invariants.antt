@@ -1,0 +1,11 @@
+use Rattle.std.proofs.Common.{◌≡◌}
+use Rattle.record_values.specs.Fields.{json_at}
+use Rattle.record_values.specs.Lists.{items_at}
+use Rattle.record_values.proofs.Lists.{behind}
+use Rattle.record_values.proofs.list.values_of.Given as goal
+
+abbrev pub invariant-reading : goal.invariant-reading
+invariant-reading l = behind l.done (items_at (json_at 125) l.left l.rest) ≡ items_at (json_at 125) l.count l.bytes
+
+abbrev pub decreases-reading : goal.decreases-reading
+decreases-reading l = l.left

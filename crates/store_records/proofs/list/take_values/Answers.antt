@@ -1,6 +1,0 @@
-use Rattle.std.proofs.Common.{arith}
-use Rattle.store_records.proofs.Reports.{values_fit}
-use Rattle.store_records.proofs.list.take_values.Goals as goal
-
-pub returns-clause-fit : goal.returns-clause-fit
-returns-clause-fit c = values_fit (λ x. x.0) (λ x. x.1.now) c.args.bytes.now c.list_of.result (λ i. omega (arith, c.type_inv.bytes i)) c.list_of.ensures
