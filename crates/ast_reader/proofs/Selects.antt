@@ -10,9 +10,9 @@ use Rattle.query_spec.specs.Parts.{unpaged}
 use Rattle.query_spec.specs.Query.{Filter, clause, Level, level}
 use Rattle.query_spec.specs.Words.{behind_select, inner_word}
 use Rattle.ast_reader.specs.Among.{rows_among}
-use Rattle.ast_reader.specs.declared.fault.FormFault.{FormFault}
-use Rattle.ast_reader.specs.declared.fault.FormFault.TheVariants.{NoForm, Memory}
-use Rattle.ast_reader.specs.Gives.{Fails}
+use Rattle.ast_parts.specs.declared.fault.FormFault.{FormFault}
+use Rattle.ast_parts.specs.declared.fault.FormFault.TheVariants.{NoForm, Memory}
+use Rattle.ast_parts.specs.Gives.{Fails}
 
 -- what is read of the entity and the filter
 rows : List Name → Read Name → Read Filter → Read Level

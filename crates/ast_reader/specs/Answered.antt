@@ -7,8 +7,8 @@ use Rattle.query_spec.specs.Answer.{Answer, too_long, not_query, unknown_entity,
 use Rattle.query_spec.specs.Answer as answer
 use Rattle.query_spec.specs.Ast.{Read}
 use Rattle.query_spec.specs.Query.{Level}
-use Rattle.ast_reader.specs.declared.fault.FormFault.{FormFault}
-use Rattle.ast_reader.specs.declared.fault.FormFault.TheVariants as form
+use Rattle.ast_parts.specs.declared.fault.FormFault.{FormFault}
+use Rattle.ast_parts.specs.declared.fault.FormFault.TheVariants as form
 use Rattle.ast_reader.specs.declared.read.AstFault.{AstFault}
 use Rattle.ast_reader.specs.declared.read.AstFault.TheVariants.{TooLong, NotJson, NotQuery, UnknownEntity, UnknownField, BadOperand, Memory}
 

@@ -1,8 +1,6 @@
 pub mod Answered
-pub mod Elements
-pub mod Gives
+pub mod Extracts
 pub mod Among
-pub mod FilterWords
 -- Re-exports for the crates above.
 pub use Rattle.json_read.specs.text_spec as text_spec
 pub use Rattle.json_read.specs.json_machine as json_machine

@@ -4,14 +4,11 @@ ghost use Rattle.json_read.specs.text_spec.Json.{items_of, item, array, string, 
 ghost use Rattle.json_read.specs.json_tree.Tree.{json_of, jsons};
 ghost use Rattle.query_spec.specs.Ast as ast;
 ghost use Rattle.query_spec.specs.Answer as answer;
-ghost use Rattle.ast_reader.specs.Gives.{Gives};
+ghost use Rattle.ast_parts.specs.Gives.{Gives};
 
-use crate::fault::FormFault;
 use crate::filter::{extract, filter};
-use crate::page::{paging, unpaged};
-use crate::parts::{name, refused, split};
 use crate::select::extracted_level;
-use crate::words::part_word;
+use ast_parts::{FormFault, name, paging, part_word, refused, split, unpaged};
 use ast_tree::{Clause, Level};
 use json_read::json_tree::{Json, Text};
 use query_spec::fleet_rows::Entity;

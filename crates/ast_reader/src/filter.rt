@@ -8,19 +8,19 @@ ghost use Rattle.json_read.specs.text_spec.Json.{items_of, item, no_items, array
 ghost use Rattle.json_read.specs.json_tree.Tree.{json_of, jsons};
 ghost use Rattle.query_spec.specs.Ast as ast;
 ghost use Rattle.ast_tree.specs.Tree.{filter_of, filters};
-ghost use Rattle.ast_reader.specs.Gives.{Gives, extract_of};
+ghost use Rattle.ast_parts.specs.Gives.{Gives};
+ghost use Rattle.ast_reader.specs.Extracts.{extract_of};
 
 use crate::compare::{compared, matched, null_test};
-use crate::elements::{Elements, elements_of};
-use crate::fault::FormFault;
-use crate::page::paging;
-use crate::parts::{columns, group, left, name, refused, split};
 use crate::select::{
     Extract, among_rows, extracted_level, is_group, listed, rows_of_all, selected_entity,
     selected_level,
 };
 use crate::shown::shown;
-use crate::words::{filter_word, inner_word};
+use ast_parts::{
+    Elements, FormFault, columns, elements_of, filter_word, group, inner_word, left, name, paging,
+    refused, split,
+};
 use ast_tree::{Clause, Filter, Filters, Level, Operand};
 use json_read::json_tree::{Json, Text};
 use query_spec::{Columns, Fields, FilterWord, InnerWord, MOST_DEPTH, Place};

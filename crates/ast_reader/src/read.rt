@@ -6,7 +6,7 @@ ghost use Rattle.query_spec.specs.Answer as answer;
 ghost use Rattle.ast_reader.specs.Answered.{Answers, AnsweredAs, GivesLevel, not_json};
 
 use crate::body::{query, route};
-use crate::fault::FormFault;
+use ast_parts::FormFault;
 use ast_tree::{CheckFault, Level, Query, check};
 use json_read::json_tree::Json;
 use json_read::{ReadFault, read};

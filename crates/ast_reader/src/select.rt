@@ -9,14 +9,10 @@ ghost use Rattle.query_spec.specs.Words as words;
 ghost use Rattle.query_spec.specs.declared.parts.Selected.TheVariants as selected;
 ghost use Rattle.ast_tree.specs.Tree.{filter_of};
 ghost use Rattle.ast_reader.specs.Among.{rows_among};
-ghost use Rattle.ast_reader.specs.Gives.{Gives, extract_of};
+ghost use Rattle.ast_parts.specs.Gives.{Gives};
+ghost use Rattle.ast_reader.specs.Extracts.{extract_of};
 
-use crate::compare::array;
-use crate::elements::{Elements, elements_of};
-use crate::fault::FormFault;
-use crate::page::unpaged;
-use crate::parts::{refused, split};
-use crate::words::behind_select;
+use ast_parts::{Elements, FormFault, array, behind_select, elements_of, refused, split, unpaged};
 use ast_tree::{Clause, Filter, Level};
 use json_read::json_tree::{Json, Text};
 use query_spec::{Columns, Fields, Name, Paging, Place, Selected, Selection};

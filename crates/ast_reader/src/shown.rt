@@ -7,12 +7,12 @@ ghost use Rattle.json_read.specs.json_tree.Tree.{json_of, jsons};
 ghost use Rattle.query_spec.specs.Ast as ast;
 ghost use Rattle.query_spec.specs.Parts as part;
 ghost use Rattle.query_spec.specs.Words as words;
-ghost use Rattle.ast_reader.specs.Gives.{Gives};
+ghost use Rattle.ast_parts.specs.Gives.{Gives};
 
-use crate::elements::{Elements, elements_of};
-use crate::fault::FormFault;
-use crate::parts::{copy_text, name, refused, refused_within, split};
-use crate::words::function_named;
+use ast_parts::{
+    Elements, FormFault, copy_text, elements_of, function_named, name, refused, refused_within,
+    split,
+};
 use ast_tree::{function_name, is_function, output_name};
 use json_read::json_tree::{Json, Text};
 use query_spec::{Function, Name, Place, Selected, Selection};

@@ -8,8 +8,9 @@ use Rattle.query_spec.specs.Parts.{unpaged}
 use Rattle.query_spec.specs.Query.{level}
 use Rattle.query_spec.specs.Words.{inner_word}
 use Rattle.ast_tree.specs.Tree.{filter_of}
-use Rattle.ast_reader.specs.Gives.{Gives, with_front}
-use Rattle.ast_reader.proofs.Fronts.{filters-on, item-within}
+use Rattle.ast_parts.specs.Gives.{Gives, with_front}
+use Rattle.ast_parts.proofs.Items.{item-within}
+use Rattle.ast_reader.proofs.Fronts.{filters-on}
 use Rattle.ast_reader.proofs.Selects.{queries, rows_fail, rows_chosen, selects}
 use Rattle.ast_reader.proofs.filter.+read.Goals as goal
 

@@ -3,7 +3,7 @@ use Rattle.std.proofs.Common.{◌≡◌, ◌+◌, ◌*◌, drop}
 use Rattle.json_read.specs.text_spec.Json.{items_of, levels, items_levels}
 use Rattle.json_read.specs.json_tree.Tree.{json_of, jsons}
 use Rattle.query_spec.specs.Ast.{filters_at}
-use Rattle.ast_reader.specs.Gives.{with_front}
+use Rattle.ast_parts.specs.Gives.{with_front}
 use Rattle.ast_reader.proofs.filter.+read.Given as goal
 
 abbrev pub decreases-filter : goal.decreases-filter

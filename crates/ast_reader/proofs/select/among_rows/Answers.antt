@@ -4,9 +4,9 @@ use Rattle.query_spec.specs.Ast.{Read}
 use Rattle.query_spec.specs.Query.{Level}
 use Rattle.ast_tree.specs.Tree.{filter_of}
 use Rattle.ast_reader.specs.Among.{rows_among}
-use Rattle.ast_reader.specs.declared.fault.FormFault.{FormFault}
-use Rattle.ast_reader.specs.declared.fault.FormFault.TheVariants.{NoForm, Memory}
-use Rattle.ast_reader.specs.Gives.{Fails, Gives}
+use Rattle.ast_parts.specs.declared.fault.FormFault.{FormFault}
+use Rattle.ast_parts.specs.declared.fault.FormFault.TheVariants.{NoForm, Memory}
+use Rattle.ast_parts.specs.Gives.{Fails, Gives}
 use Rattle.ast_reader.proofs.select.among_rows.Goals as goal
 
 fails_on : (fs : List Field) (p : List ℕ) (e : FormFault) (r : Read Level) → Fails e r → Fails e (rows_among fs p r)

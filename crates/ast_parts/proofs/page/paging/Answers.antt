@@ -1,8 +1,8 @@
 use Rattle.std.proofs.Common.{◌≤◌, arith}
-use Rattle.json_read.specs.text_spec.Json.{items_of, levels, items_levels}
-use Rattle.json_read.specs.json_tree.Tree.{json_of, jsons}
-use Rattle.ast_reader.proofs.Fronts.{item-within}
-use Rattle.ast_reader.proofs.page.paging.Goals as goal
+use Rattle.json_tree.specs.text_spec.Json.{items_of, levels, items_levels}
+use Rattle.json_tree.specs.Tree.{json_of, jsons}
+use Rattle.ast_parts.proofs.Items.{item-within}
+use Rattle.ast_parts.proofs.page.paging.Goals as goal
 
 pub paged-requires : goal.paged-requires
 paged-requires c =

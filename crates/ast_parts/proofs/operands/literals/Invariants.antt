@@ -1,9 +1,9 @@
 use Rattle.std.proofs.Common.{◌≡◌, drop}
-use Rattle.json_read.specs.text_spec.Json.{items_of}
-use Rattle.json_read.specs.json_tree.Tree.{jsons}
+use Rattle.json_tree.specs.text_spec.Json.{items_of}
+use Rattle.json_tree.specs.Tree.{jsons}
 use Rattle.query_spec.specs.Ast.{literals_at}
-use Rattle.ast_reader.specs.Gives.{with_front}
-use Rattle.ast_reader.proofs.compare.literals.Given as goal
+use Rattle.ast_parts.specs.Gives.{with_front}
+use Rattle.ast_parts.proofs.operands.literals.Given as goal
 
 abbrev pub invariant-loop-json : goal.invariant-loop-json
 invariant-loop-json l = record {

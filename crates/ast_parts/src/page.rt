@@ -3,17 +3,17 @@ ghost use Rattle.std.specs.Prelude.{◌≡◌, ◌+◌, ◌<◌, ◌≤◌, leng
 ghost use Rattle.std.specs.Char.{is_ascii_digit};
 ghost use Rattle.std.specs.List.{list_all};
 ghost use Rattle.std.specs.Str.Parse.{digits_value};
-ghost use Rattle.json_read.specs.text_spec.Json.{items_of, item, no_items, array, string, levels, items_levels};
-ghost use Rattle.json_read.specs.json_tree.Tree.{json_of, jsons};
+ghost use Rattle.json_tree.specs.text_spec.Json.{items_of, item, no_items, array, string, levels, items_levels};
+ghost use Rattle.json_tree.specs.Tree.{json_of, jsons};
 ghost use Rattle.query_spec.specs.Ast as ast;
 ghost use Rattle.query_spec.specs.Parts as part;
-ghost use Rattle.ast_reader.specs.Gives.{Gives};
+ghost use Rattle.ast_parts.specs.Gives.{Gives};
 
 use crate::elements::{Elements, elements_of};
 use crate::fault::FormFault;
 use crate::parts::{copy_text, name, refused, split};
 use crate::words::part_word;
-use json_read::json_tree::{Json, Text};
+use json_tree::{Json, Text};
 use query_spec::{Name, Order, Orders, Paging, PartWord, Place};
 use std::alloc::Global;
 
@@ -268,7 +268,7 @@ fn paged(alloc: Global, paging: Paging, json: &Json, place: &Place) -> Result<Pa
 }
 
 /// No limit, no offset and no order.
-pub(crate) fn unpaged(alloc: Global) -> Paging
+pub fn unpaged(alloc: Global) -> Paging
     ensures { result ≡ part.unpaged }
 {
     Paging {
@@ -280,12 +280,7 @@ pub(crate) fn unpaged(alloc: Global) -> Paging
 }
 
 /// Reads the paging of a query. The first element of `list` has the number `from` in the query.
-pub(crate) fn paging(
-    alloc: Global,
-    list: &[Json],
-    place: &Place,
-    from: usize,
-) -> Result<Paging, FormFault>
+pub fn paging(alloc: Global, list: &[Json], place: &Place, from: usize) -> Result<Paging, FormFault>
     requires place { length place.now + items_levels (items_of (jsons list.now)) < 127 }
     requires from { from ≤ 3 }
     ensures { Gives (λ g. g) result (ast.paging_at place.now from part.unpaged (items_of (jsons list.now))) }

@@ -1,13 +1,13 @@
 //! Finds the meaning of the head words of the AST's lists.
 ghost use Rattle.std.specs.Prelude.{◌≡◌, option_map};
 ghost use Rattle.query_spec.specs.Words as spec;
-ghost use Rattle.ast_reader.specs.FilterWords as part;
+ghost use Rattle.ast_parts.specs.FilterWords as part;
 
 use query_spec::{FieldWord, FilterWord, Function, InnerWord, Op, PartWord};
 
 /// The filter that begins with this word.
 #[tactic(auto, unfolding(query_spec::specs::Words::filter_word))]
-pub(crate) fn filter_word(text: &str) -> FilterWord
+pub fn filter_word(text: &str) -> FilterWord
     ensures { result ≡ spec.filter_word text.now }
 {
     if text == "and" {
@@ -72,7 +72,7 @@ pub(crate) fn field_word(text: &str) -> FieldWord
 
 /// The right side of `in` that begins with this word.
 #[tactic(auto, unfolding(query_spec::specs::Words::inner_word))]
-pub(crate) fn inner_word(text: &str) -> InnerWord
+pub fn inner_word(text: &str) -> InnerWord
     ensures { result ≡ spec.inner_word text.now }
 {
     if text == "array" {
@@ -88,7 +88,7 @@ pub(crate) fn inner_word(text: &str) -> InnerWord
 
 /// The part of a query that begins with this word.
 #[tactic(auto, unfolding(query_spec::specs::Words::part_word))]
-pub(crate) fn part_word(text: &str) -> PartWord
+pub fn part_word(text: &str) -> PartWord
     ensures { result ≡ spec.part_word text.now }
 {
     if text == "extract" {
@@ -106,7 +106,7 @@ pub(crate) fn part_word(text: &str) -> PartWord
 
 /// The function with this name.
 #[tactic(auto, unfolding(query_spec::specs::Words::function_named))]
-pub(crate) fn function_named(text: &str) -> Option<Function>
+pub fn function_named(text: &str) -> Option<Function>
     ensures { result ≡ spec.function_named text.now }
 {
     if text == "count" {
@@ -123,7 +123,7 @@ pub(crate) fn function_named(text: &str) -> Option<Function>
 }
 
 /// The name of the entity in `select_E`.
-pub(crate) fn behind_select(text: &str) -> Option<&str>
+pub fn behind_select(text: &str) -> Option<&str>
     ensures { option_map (λ s. s.now) result ≡ spec.behind_select text.now }
 {
     text.strip_prefix("select_")

@@ -1,10 +1,8 @@
 -- The results of the code, compared with the definitions of the AST.
 use Rattle.std.specs.Prelude.{◌≡◌, List, ◌++◌, Result, Ok, Err}
-use Rattle.query_spec.specs.Ast as ast
 use Rattle.query_spec.specs.Ast.{Read, ◌>>=◌}
-use Rattle.ast_reader.specs.declared.select.Extract.{Extract}
-use Rattle.ast_reader.specs.declared.fault.FormFault.{FormFault}
-use Rattle.ast_reader.specs.declared.fault.FormFault.TheVariants.{NoForm, Memory}
+use Rattle.ast_parts.specs.declared.fault.FormFault.{FormFault}
+use Rattle.ast_parts.specs.declared.fault.FormFault.TheVariants.{NoForm, Memory}
 
 -- the code fails at the definition's place, or memory ran out, which may happen for any value
 abbrev pub Fails : {B : Type 0} → FormFault → Read B → Type 0
@@ -18,6 +16,3 @@ Gives view (Err e) r = Fails e r
 -- the list that is read, after the items that were read before
 abbrev pub with_front : {A : Type 0} → List A → Read (List A) → Read (List A)
 with_front front r = r >>= λ xs. Ok (front ++ xs)
-
-abbrev pub extract_of : Extract → ast.Extract
-extract_of x = ast.extract x.shown x.clause x.group

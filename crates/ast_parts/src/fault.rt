@@ -1,13 +1,13 @@
 //! Why a value can't be read.
 ghost use Rattle.std.specs.Prelude.{◌≡◌, Err};
-ghost use Rattle.ast_reader.specs.Gives.{Fails};
-ghost use Rattle.ast_reader.specs.declared.fault.FormFault.TheVariants.{Memory};
+ghost use Rattle.ast_parts.specs.Gives.{Fails};
+ghost use Rattle.ast_parts.specs.declared.fault.FormFault.TheVariants.{Memory};
 
 use query_spec::Place;
 use std::alloc::{AllocError, AllocFailed, Global};
 
 #[derive(Drop)]
-pub(crate) enum FormFault {
+pub enum FormFault {
     /// No form of the AST allows the value at this place.
     NoForm(Place),
     /// There was no memory.

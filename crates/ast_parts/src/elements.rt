@@ -1,14 +1,14 @@
 //! Matches a list by its number of elements.
 ghost use Rattle.std.specs.Prelude.{◌≡◌, ◌≤◌};
-ghost use Rattle.json_read.specs.text_spec.Json.{items_of, items_levels};
-ghost use Rattle.json_read.specs.json_tree.Tree.{jsons};
-ghost use Rattle.ast_reader.specs.Elements.{AreElements, NestWithin};
+ghost use Rattle.json_tree.specs.text_spec.Json.{items_of, items_levels};
+ghost use Rattle.json_tree.specs.Tree.{jsons};
+ghost use Rattle.ast_parts.specs.Elements.{AreElements, NestWithin};
 
-use json_read::json_tree::Json;
+use json_tree::Json;
 
 /// The elements of a list of at most three, or the first four of a longer one.
 #[derive(Clone, Copy)]
-pub(crate) enum Elements<'a> {
+pub enum Elements<'a> {
     None,
     One(&'a Json),
     Two(&'a Json, &'a Json),
@@ -16,7 +16,7 @@ pub(crate) enum Elements<'a> {
     More(&'a Json, &'a Json, &'a Json, &'a Json, &'a [Json]),
 }
 
-pub(crate) fn elements_of(list: &[Json]) -> Elements<'_>
+pub fn elements_of(list: &[Json]) -> Elements<'_>
     ensures items { AreElements result (items_of (jsons list.now)) }
     ensures levels { NestWithin result (items_levels (items_of (jsons list.now))) }
 {

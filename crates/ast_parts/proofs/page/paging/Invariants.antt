@@ -1,9 +1,9 @@
 use Rattle.std.proofs.Common.{◌≡◌, ◌+◌, drop}
-use Rattle.json_read.specs.text_spec.Json.{items_of}
-use Rattle.json_read.specs.json_tree.Tree.{jsons}
+use Rattle.json_tree.specs.text_spec.Json.{items_of}
+use Rattle.json_tree.specs.Tree.{jsons}
 use Rattle.query_spec.specs.Ast.{paging_at}
 use Rattle.query_spec.specs.Parts.{unpaged}
-use Rattle.ast_reader.proofs.page.paging.Given as goal
+use Rattle.ast_parts.proofs.page.paging.Given as goal
 
 abbrev pub invariant-loop-json : goal.invariant-loop-json
 invariant-loop-json l = record {

@@ -1,20 +1,20 @@
 //! Reads names, fields and columns: the parts without filters.
 ghost use Rattle.std.specs.Prelude.{◌≡◌, ◌+◌, ◌<◌, ◌≤◌, [], ◌∷◌, ◌++◌, length, IfOk, Err, MatchOption};
-ghost use Rattle.json_read.specs.text_spec.Json.{items_of, item, no_items, array, string};
-ghost use Rattle.json_read.specs.json_tree.Tree.{json_of, jsons};
+ghost use Rattle.json_tree.specs.text_spec.Json.{items_of, item, no_items, array, string};
+ghost use Rattle.json_tree.specs.Tree.{json_of, jsons};
 ghost use Rattle.query_spec.specs.Ast as ast;
 ghost use Rattle.query_spec.specs.Parts.{field_named, name};
-ghost use Rattle.ast_reader.specs.Gives.{Gives, Fails};
+ghost use Rattle.ast_parts.specs.Gives.{Gives, Fails};
 
 use crate::elements::{Elements, elements_of};
 use crate::fault::FormFault;
 use crate::words::field_word;
-use json_read::json_tree::{Json, Text};
+use json_tree::{Json, Text};
 use query_spec::{Columns, Field, FieldWord, Fields, Name, Place};
 use std::alloc::{AllocError, Global};
 
 /// The first value and the rest, or None for an empty list.
-pub(crate) fn split(list: &[Json]) -> Option<(&Json, &[Json])>
+pub fn split(list: &[Json]) -> Option<(&Json, &[Json])>
     ensures { MatchOption result (items_of (jsons list.now) ≡ no_items) (λ p. items_of (jsons list.now) ≡ item (json_of p.0.now) (items_of (jsons p.1.now))) }
 {
     match list {
@@ -24,7 +24,7 @@ pub(crate) fn split(list: &[Json]) -> Option<(&Json, &[Json])>
 }
 
 /// The fault that no form is allowed at this place.
-pub(crate) fn refused(alloc: Global, place: &Place) -> FormFault
+pub fn refused(alloc: Global, place: &Place) -> FormFault
     ensures { Fails {B = Unit {0}} result (Err place.now) }
 {
     match place.copy(alloc) {
@@ -34,7 +34,7 @@ pub(crate) fn refused(alloc: Global, place: &Place) -> FormFault
 }
 
 /// The fault that no form is allowed for the element of this number.
-pub(crate) fn refused_within(alloc: Global, place: &Place, number: usize) -> FormFault
+pub fn refused_within(alloc: Global, place: &Place, number: usize) -> FormFault
     requires { length place.now < 128 }
     ensures { Fails {B = Unit {0}} result (Err (place.now ++ number ∷ [])) }
 {
@@ -44,13 +44,13 @@ pub(crate) fn refused_within(alloc: Global, place: &Place, number: usize) -> For
     }
 }
 
-pub(crate) fn copy_text(alloc: Global, text: &Text) -> Result<Text, AllocError>
+pub fn copy_text(alloc: Global, text: &Text) -> Result<Text, AllocError>
     ensures { IfOk result (λ copied. copied ≡ text.now) }
 {
     Text::from_str(alloc, text.as_str())
 }
 
-pub(crate) fn name(alloc: Global, json: &Json, place: Place) -> Result<Name, FormFault>
+pub fn name(alloc: Global, json: &Json, place: Place) -> Result<Name, FormFault>
     ensures { Gives (λ n. n) result (ast.name_at place (json_of json.now)) }
 {
     match json {
@@ -77,7 +77,7 @@ pub(crate) fn field_named(name: Name) -> Field
 }
 
 /// Reads a field: a column, a parameter of a resource, a fact of a node, a tag, or a node's state.
-pub(crate) fn field(alloc: Global, json: &Json, place: &Place) -> Result<Field, FormFault>
+pub fn field(alloc: Global, json: &Json, place: &Place) -> Result<Field, FormFault>
     requires { length place.now < 128 }
     ensures { Gives (λ f. f) result (ast.field_at place.now (json_of json.now)) }
 {
@@ -130,7 +130,7 @@ fn names(alloc: Global, list: &[Json], place: &Place, from: usize) -> Result<Col
 }
 
 /// Reads a column, or a list of at least one column.
-pub(crate) fn columns(alloc: Global, json: &Json, place: &Place) -> Result<Columns, FormFault>
+pub fn columns(alloc: Global, json: &Json, place: &Place) -> Result<Columns, FormFault>
     requires { length place.now < 128 }
     ensures { Gives (λ ns. ns) result (ast.columns_at place.now (json_of json.now)) }
 {
@@ -159,7 +159,7 @@ fn some_names(alloc: Global, list: &[Json], place: &Place) -> Result<Columns, Fo
 }
 
 /// Reads `group_by` with its columns.
-pub(crate) fn group(alloc: Global, json: &Json, place: &Place) -> Result<Columns, FormFault>
+pub fn group(alloc: Global, json: &Json, place: &Place) -> Result<Columns, FormFault>
     requires { length place.now < 128 }
     ensures { Gives (λ ns. ns) result (ast.group_at place.now (json_of json.now)) }
 {
@@ -212,7 +212,7 @@ fn fields(alloc: Global, list: &[Json], place: &Place) -> Result<Fields, FormFau
 }
 
 /// Reads the left side of `in`: a column, or a list of at least one column.
-pub(crate) fn left(alloc: Global, json: &Json, place: &Place) -> Result<Fields, FormFault>
+pub fn left(alloc: Global, json: &Json, place: &Place) -> Result<Fields, FormFault>
     requires { length place.now < 128 }
     ensures { Gives (λ fs. fs) result (ast.left_at place.now (json_of json.now)) }
 {

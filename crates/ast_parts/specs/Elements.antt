@@ -1,9 +1,9 @@
 -- What contracts say of a list by its number of elements.
 use Rattle.std.specs.Prelude.{◌≡◌, ◌≤◌, ℕ}
-use Rattle.json_read.specs.text_spec.Json.{Items, no_items, item, items_of, levels}
-use Rattle.json_read.specs.json_tree.Tree.{json_of, jsons}
-use Rattle.ast_reader.specs.declared.elements.Elements.{Elements}
-use Rattle.ast_reader.specs.declared.elements.Elements.TheVariants.{None, One, Two, Three, More}
+use Rattle.json_tree.specs.text_spec.Json.{Items, no_items, item, items_of, levels}
+use Rattle.json_tree.specs.Tree.{json_of, jsons}
+use Rattle.ast_parts.specs.declared.elements.Elements.{Elements}
+use Rattle.ast_parts.specs.declared.elements.Elements.TheVariants.{None, One, Two, Three, More}
 
 abbrev pub AreElements : Elements → Items → Type 0
 AreElements None vs = vs ≡ no_items

@@ -3,7 +3,7 @@ use Rattle.std.specs.Result.{result_ok}
 use Rattle.std.specs.Str.Parse.{digits_value}
 use Rattle.query_spec.specs.Parts.{are_digits}
 use Rattle.query_spec.proofs.Counts.{count_gives}
-use Rattle.ast_reader.proofs.page.number_of.Goals as goal
+use Rattle.ast_parts.proofs.page.number_of.Goals as goal
 
 pub returns-then-are_digits : goal.returns-then-are_digits
 returns-then-are_digits c =
