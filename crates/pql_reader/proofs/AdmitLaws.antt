@@ -7,13 +7,13 @@ use Rattle.pql_spec.specs.declared.token.Token.{Token}
 use Rattle.pql_machine.specs.Least.{need}
 use Rattle.pql_machine.specs.Machine.{State, Frame, step, and_then}
 use Rattle.pql_machine.specs.Verdict.{within_depth, admit}
-use Rattle.pql_reader.specs.Heights.{capped}
+use Rattle.pql_parts.specs.Heights.{capped}
 use Rattle.pql_lexer.specs.Next.{IsNext, NoToken}
-use Rattle.pql_reader.specs.States.{Took}
+use Rattle.pql_parts.specs.States.{Took}
 use Rattle.pql_reader.specs.Goes.{Stepped}
-use Rattle.pql_reader.specs.declared.state.State as code
-use Rattle.pql_reader.specs.declared.fault.Fault.{Fault}
-use Rattle.pql_reader.specs.declared.fault.Fault.TheVariants.{Bad, Memory}
+use Rattle.pql_parts.specs.declared.state.State as code
+use Rattle.pql_parts.specs.declared.fault.Fault.{Fault}
+use Rattle.pql_parts.specs.declared.fault.Fault.TheVariants.{Bad, Memory}
 use Rattle.query_spec.specs.Limits.{most_depth}
 
 held : (q : State) (b : Bool) → b ≡ true → (if b then Some q else None) ≡ Some q

@@ -1,7 +1,3 @@
-pub mod Heights
-pub mod DepthLaws
-pub mod NeedLaws
-pub mod TakenNames
 pub mod Readings
 pub mod AnswerLaws
 pub mod AdmitLaws

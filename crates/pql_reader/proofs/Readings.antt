@@ -14,12 +14,12 @@ use Rattle.pql_machine.specs.Verdict as told
 use Rattle.pql_machine.proofs.Law.{verdict_means, take-front, take-one}
 use Rattle.pql_machine.proofs.OneAnswer.{spelt_begins}
 use Rattle.pql_lexer.specs.Next.{IsNext, NoToken}
-use Rattle.pql_reader.specs.declared.fault.Fault.{Fault}
-use Rattle.pql_reader.specs.declared.fault.Fault.TheVariants.{Bad, Memory}
-use Rattle.pql_reader.specs.declared.state.State as code
+use Rattle.pql_parts.specs.declared.fault.Fault.{Fault}
+use Rattle.pql_parts.specs.declared.fault.Fault.TheVariants.{Bad, Memory}
+use Rattle.pql_parts.specs.declared.state.State as code
 use Rattle.pql_reader.specs.declared.read.Stop.{Stop}
 use Rattle.pql_reader.specs.declared.read.Stop.TheVariants as stop
-use Rattle.pql_reader.specs.States.{state_of}
+use Rattle.pql_parts.specs.States.{state_of}
 use Rattle.pql_reader.specs.Goes.{space_length, Halts, Stepped, Goes, Reached, EndsAs, Reads, stop_of}
 use Rattle.query_spec.specs.Limits.{most_depth}
 

@@ -7,10 +7,10 @@ use Rattle.pql_spec.specs.Texts.{Spelt, bytes_of, tokens_of, AreSpelt, TextSpell
 use Rattle.pql_machine.specs.Machine as machine
 use Rattle.pql_machine.specs.Verdict.{admit, verdict}
 use Rattle.pql_lexer.specs.Next.{IsNext, NoToken}
-use Rattle.pql_reader.specs.States.{state_of}
-use Rattle.pql_reader.specs.declared.fault.Fault.{Fault}
-use Rattle.pql_reader.specs.declared.fault.Fault.TheVariants.{Bad, Memory}
-use Rattle.pql_reader.specs.declared.state.State.{State}
+use Rattle.pql_parts.specs.States.{state_of}
+use Rattle.pql_parts.specs.declared.fault.Fault.{Fault}
+use Rattle.pql_parts.specs.declared.fault.Fault.TheVariants.{Bad, Memory}
+use Rattle.pql_parts.specs.declared.state.State.{State}
 use Rattle.pql_reader.specs.declared.read.Stop.{Stop}
 use Rattle.pql_reader.specs.declared.read.Stop.TheVariants as stop
 use Rattle.query_spec.specs.Limits.{most_depth}

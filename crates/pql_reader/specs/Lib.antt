@@ -1,9 +1,3 @@
-pub mod Heights
-pub mod Parts
-pub mod Levels
-pub mod FrameCode
-pub mod Shown
-pub mod States
 pub mod Goes
 pub mod Answered
 -- Re-exports for the crates above.

@@ -5,31 +5,22 @@
 //! Its contract promises the answer that `AnswerOf` of `pql_spec` relates to the text. A text has exactly one such answer (a law
 //! of `pql_machine`), so the call can't return another query or another fault. The only other result is missing memory.
 //!
-//! Tokens come from `pql_lexer`, one at a time. The reader follows the machine of `pql_machine` state by state: `state.rt` has
-//! its states, and each other file has a part of its steps. What is open around a filter is stored in a list (`frames.rt`), so
-//! nothing recurses over parentheses or braces. Each list of filters stores its height (`build.rt`). From the heights `need.rt`
-//! computes in a few steps whether the least query of a state nests at most 100 levels; greater heights are all stored as 101.
+//! Tokens come from `pql_lexer`, one at a time. The reader follows the machine of `pql_machine` state by state: `pql_parts` has its
+//! states and what is open around a filter, and each file here has a part of its steps. Nothing recurses over parentheses or
+//! braces.
 //!
-//! A new form of filter needs a token in `pql_spec`, a mode in `Mode` here and in `pql_machine`, and a function in `operand.rt`.
+//! A new form of filter needs a token in `pql_spec`, a mode in `Mode` of `pql_parts` and in `pql_machine`, and a function in
+//! `operand.rt`.
 //!
 //! A fault is the first of these: too long, bad PQL, unknown entity, unknown field, bad operand. Texts have at most 1,048,576
 //! bytes. Bad PQL has the position of the first token with which no query continues. Reading takes one pass and a few steps for
 //! each token. Only the final check recurses, at most 100 levels deep.
 #![tactic(auto)]
 
-mod build;
-mod column;
-mod count;
-mod fault;
-mod frames;
-mod need;
 mod operand;
 mod page;
 mod read;
 mod region;
-mod shown;
-mod sides;
-mod state;
 mod step;
 
 pub use read::{PqlFault, read_pql};

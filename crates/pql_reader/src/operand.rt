@@ -9,19 +9,16 @@ ghost use Rattle.query_spec.specs.declared.parts.Pattern.{Pattern};
 ghost use Rattle.pql_spec.specs.Grammar as grammar;
 ghost use Rattle.pql_spec.specs.declared.token.Token.TheVariants as token;
 ghost use Rattle.pql_machine.specs.Machine as machine;
-ghost use Rattle.pql_reader.specs.Levels.{frame_of};
-ghost use Rattle.pql_reader.specs.Parts.{pending_of};
-ghost use Rattle.pql_reader.specs.States.{column_of, head_of, mode_of, spot_step, Took};
+ghost use Rattle.pql_parts.specs.Levels.{frame_of};
+ghost use Rattle.pql_parts.specs.Parts.{pending_of};
+ghost use Rattle.pql_parts.specs.States.{column_of, head_of, mode_of, spot_step, Took};
 ghost use Rattle.query_spec.specs.Limits.{most_depth};
 
-use crate::build::{Built, Pending};
-use crate::column::{Column, Gone, column_step};
-use crate::fault::{Fault, let_token_go};
-use crate::frames::{Frame, Frames, Right};
-use crate::shown::Shown;
-use crate::sides::{field_named, fields_of, more};
-use crate::state::{Head, Mode, Spot, State, let_head_go, let_spot_go};
 use ast_tree::{Filter, Literal, Literals, Name, Op, Pattern, Place, Scalar, Selection};
+use pql_parts::{
+    Built, Column, Fault, Frame, Frames, Gone, Head, Mode, Pending, Right, Shown, Spot, State,
+    column_step, field_named, fields_of, let_head_go, let_spot_go, let_token_go, more,
+};
 use pql_spec::Token;
 use std::alloc::{AllocError, Global};
 

@@ -5,17 +5,15 @@ ghost use Rattle.query_spec.specs.Ast.{order};
 ghost use Rattle.pql_spec.specs.Grammar as grammar;
 ghost use Rattle.pql_spec.specs.declared.token.Token.TheVariants as token;
 ghost use Rattle.pql_machine.specs.Machine as machine;
-ghost use Rattle.pql_reader.specs.Parts.{pending_of};
-ghost use Rattle.pql_reader.specs.States.{head_of, owner_of, tail_of, stage_of, paged_step, Took};
+ghost use Rattle.pql_parts.specs.Parts.{pending_of};
+ghost use Rattle.pql_parts.specs.States.{head_of, owner_of, tail_of, stage_of, paged_step, Took};
 
-use crate::build::{Built, Closed, deeper};
-use crate::count::count_of;
-use crate::fault::{Fault, let_token_go};
-use crate::frames::Right;
 use crate::operand::finish_of;
-use crate::sides::fields_of;
-use crate::state::{Finished, Head, Owner, Paged, Spot, Stage, State, Tail, let_paged_go};
 use ast_tree::{Columns, Filter, Level, Literal, Name, Order, Orders, Paging, Scalar, Selection};
+use pql_parts::{
+    Built, Closed, Fault, Finished, Head, Owner, Paged, Right, Spot, Stage, State, Tail, count_of,
+    deeper, fields_of, let_paged_go, let_token_go,
+};
 use pql_spec::Token;
 use std::alloc::{AllocError, Global};
 

@@ -4,13 +4,11 @@ ghost use Rattle.pql_spec.specs.Texts as text;
 ghost use Rattle.pql_machine.specs.Machine as machine;
 ghost use Rattle.pql_reader.specs.Answered.{Answers, Answered};
 ghost use Rattle.pql_reader.specs.Goes as goes;
-ghost use Rattle.pql_reader.specs.States.{state_of};
+ghost use Rattle.pql_parts.specs.States.{state_of};
 
-use crate::fault::Fault;
-use crate::frames::Frames;
-use crate::state::{Finished, State, let_state_go};
 use crate::step::token_step;
 use ast_tree::{CheckFault, Level, Path, Query, check};
+use pql_parts::{Fault, Finished, Frames, State, let_state_go};
 use query_spec::MOST_QUERY;
 use std::alloc::Global;
 

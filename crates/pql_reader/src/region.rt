@@ -4,18 +4,16 @@ ghost use Rattle.ast_tree.specs.Tree.{filter_of};
 ghost use Rattle.query_spec.specs.Query as query;
 ghost use Rattle.pql_spec.specs.Grammar as grammar;
 ghost use Rattle.pql_machine.specs.Machine as machine;
-ghost use Rattle.pql_reader.specs.Parts.{pending_of};
-ghost use Rattle.pql_reader.specs.States.{head_of, owner_of, Took};
+ghost use Rattle.pql_parts.specs.Parts.{pending_of};
+ghost use Rattle.pql_parts.specs.States.{head_of, owner_of, Took};
 
-use crate::build::{Built, Closed, Pending, deeper, let_built_go};
-use crate::fault::{Fault, let_token_go};
-use crate::frames::{Frame, Frames, let_right_go};
 use crate::operand::{finish, operand_begins};
 use crate::page::{empty_tail, from_order};
-use crate::state::{
-    Head, Mode, Owner, Paged, Spot, Stage, State, let_head_go, let_paged_go, let_spot_go,
-};
 use ast_tree::{Filter, Name};
+use pql_parts::{
+    Built, Closed, Fault, Frame, Frames, Head, Mode, Owner, Paged, Pending, Spot, Stage, State,
+    deeper, let_built_go, let_head_go, let_paged_go, let_right_go, let_spot_go, let_token_go,
+};
 use pql_spec::Token;
 use std::alloc::{AllocError, Global};
 

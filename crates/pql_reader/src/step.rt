@@ -5,21 +5,18 @@ ghost use Rattle.pql_machine.specs.Least as least;
 ghost use Rattle.pql_machine.specs.Machine as machine;
 ghost use Rattle.pql_machine.specs.Verdict as verdict;
 ghost use Rattle.pql_lexer.specs.Next.{IsNext, BeginsWith};
-ghost use Rattle.pql_reader.specs.States.{column_of, state_of, Took};
+ghost use Rattle.pql_parts.specs.States.{column_of, state_of, Took};
 ghost use Rattle.pql_reader.specs.Goes.{Stepped};
 ghost use Rattle.query_spec.specs.Limits.{most_depth};
 
-use crate::column::{Column, Gone, column_step};
-use crate::fault::{Fault, let_token_go};
-use crate::frames::Frames;
-use crate::need::need;
 use crate::operand::mode_step;
 use crate::page::stage_step;
 use crate::region::{body_step, done_step};
-use crate::shown::Shown;
-use crate::state::{Head, State, let_state_go};
 use ast_tree::{Name, Selection};
 use pql_lexer::next_token;
+use pql_parts::{
+    Column, Fault, Frames, Gone, Head, Shown, State, column_step, let_state_go, let_token_go, need,
+};
 use pql_spec::Token;
 use query_spec::MOST_DEPTH;
 use std::alloc::Global;

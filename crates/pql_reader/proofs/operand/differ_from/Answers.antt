@@ -3,7 +3,7 @@ use Rattle.query_spec.specs.declared.parts.Op.TheVariants.{Equal}
 use Rattle.query_spec.specs.Parts.{field_named}
 use Rattle.query_spec.specs.Query.{compare, negation}
 use Rattle.pql_machine.specs.Machine as machine
-use Rattle.pql_reader.specs.States.{spot_step, Took}
+use Rattle.pql_parts.specs.States.{spot_step, Took}
 use Rattle.pql_reader.proofs.operand.differ_from.Goals as goal
 
 pub returns-in-Literal : goal.returns-in-Literal

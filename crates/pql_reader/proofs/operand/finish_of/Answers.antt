@@ -2,8 +2,8 @@ use Rattle.std.proofs.Common.{◌≡◌, subst, Some}
 use Rattle.std.specs.Prelude.{IfOk}
 use Rattle.ast_tree.specs.Tree.{filter_of}
 use Rattle.pql_machine.specs.Machine as machine
-use Rattle.pql_reader.specs.Parts.{pending_of}
-use Rattle.pql_reader.specs.States.{head_of, Took}
+use Rattle.pql_parts.specs.Parts.{pending_of}
+use Rattle.pql_parts.specs.States.{head_of, Took}
 use Rattle.pql_reader.proofs.operand.finish_of.Goals as goal
 
 pub returns-in-Ok : goal.returns-in-Ok

@@ -1,8 +1,8 @@
 use Rattle.std.proofs.Common.{◌≡◌, subst, sym, ap, Some}
 use Rattle.std.specs.Prelude.{IfOk}
 use Rattle.pql_machine.specs.Machine as machine
-use Rattle.pql_reader.specs.Parts.{pending_of}
-use Rattle.pql_reader.specs.States.{head_of, mode_of}
+use Rattle.pql_parts.specs.Parts.{pending_of}
+use Rattle.pql_parts.specs.States.{head_of, mode_of}
 use Rattle.pql_reader.proofs.operand.goes.Goals as goal
 
 pub returns-in-Ok : goal.returns-in-Ok

@@ -1,7 +1,7 @@
 use Rattle.std.proofs.Common.{[], ◌∷◌, ◌++◌, subst, sym}
 use Rattle.pql_spec.specs.Grammar.{among}
 use Rattle.pql_machine.specs.Machine as machine
-use Rattle.pql_reader.specs.States.{spot_step, Took}
+use Rattle.pql_parts.specs.States.{spot_step, Took}
 use Rattle.pql_reader.proofs.operand.literal_behind.Goals as goal
 
 pub returns-in-Comma : goal.returns-in-Comma

@@ -4,8 +4,8 @@ use Rattle.query_spec.specs.Parts.{field_named}
 use Rattle.query_spec.specs.Query.{matches}
 use Rattle.query_spec.specs.declared.parts.Pattern.{Pattern}
 use Rattle.pql_machine.specs.Machine as machine
-use Rattle.pql_reader.specs.Parts.{pending_of}
-use Rattle.pql_reader.specs.States.{head_of, Took}
+use Rattle.pql_parts.specs.Parts.{pending_of}
+use Rattle.pql_parts.specs.States.{head_of, Took}
 use Rattle.pql_reader.proofs.operand.pattern_read.Goals as goal
 
 pub returns-in-Some : goal.returns-in-Some

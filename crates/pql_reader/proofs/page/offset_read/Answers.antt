@@ -2,7 +2,7 @@ use Rattle.std.proofs.Common.{◌∙◌, ℕ, subst, sym, ap}
 use Rattle.std.specs.Prelude.{option_map}
 use Rattle.pql_spec.specs.Grammar.{with_offset}
 use Rattle.pql_machine.specs.Machine as machine
-use Rattle.pql_reader.specs.States.{head_of, owner_of, tail_of, Took}
+use Rattle.pql_parts.specs.States.{head_of, owner_of, tail_of, Took}
 use Rattle.pql_reader.proofs.page.offset_read.Goals as goal
 
 pub returns-in-Some : goal.returns-in-Some

@@ -1,6 +1,6 @@
 use Rattle.pql_spec.specs.Grammar.{among_rows, level_with}
 use Rattle.std.proofs.Common.{Some}
-use Rattle.pql_reader.specs.States.{tail_of}
+use Rattle.pql_parts.specs.States.{tail_of}
 use Rattle.pql_reader.proofs.page.right_done.Goals as goal
 
 pub returns : goal.returns

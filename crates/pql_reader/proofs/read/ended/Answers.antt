@@ -1,9 +1,9 @@
 use Rattle.std.proofs.Common.{◌≡◌, List, None, refl}
 use Rattle.pql_machine.specs.Machine.{Frame, ended}
-use Rattle.pql_reader.specs.States.{state_of}
-use Rattle.pql_reader.specs.declared.state.Finished.{Finished}
-use Rattle.pql_reader.specs.declared.state.State.{State}
-use Rattle.pql_reader.specs.declared.state.State.TheVariants.{Start, Headed, HeadColumns, HeadBrace, Body, Within, Done, Paged, Complete}
+use Rattle.pql_parts.specs.States.{state_of}
+use Rattle.pql_parts.specs.declared.state.Finished.{Finished}
+use Rattle.pql_parts.specs.declared.state.State.{State}
+use Rattle.pql_parts.specs.declared.state.State.TheVariants.{Start, Headed, HeadColumns, HeadBrace, Body, Within, Done, Paged, Complete}
 use Rattle.pql_reader.proofs.read.ended.Goals as goal
 
 goes_on : (fs : List Frame) (s : State) → ((f : Finished) → s ≡ Complete f → ⊥) → None ≡ ended (state_of fs s)

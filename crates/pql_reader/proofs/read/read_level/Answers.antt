@@ -1,5 +1,5 @@
 use Rattle.std.proofs.Common.{◌≤◌, ◌<◌, ◌+◌, length, arith}
-use Rattle.pql_reader.specs.States.{state_of}
+use Rattle.pql_parts.specs.States.{state_of}
 use Rattle.pql_reader.proofs.Readings.{within, text_ends, stops, goes_on, moves}
 use Rattle.pql_reader.proofs.read.read_level.Goals as goal
 

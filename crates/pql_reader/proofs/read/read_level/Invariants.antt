@@ -1,6 +1,6 @@
 use Rattle.std.proofs.Common.{◌≡◌, ◌≤◌, ◌-◌, drop, length}
 use Rattle.pql_machine.specs.Least.{need}
-use Rattle.pql_reader.specs.States.{state_of}
+use Rattle.pql_parts.specs.States.{state_of}
 use Rattle.pql_reader.specs.Goes.{Reached}
 use Rattle.pql_reader.proofs.read.read_level.Given as goal
 use Rattle.query_spec.specs.Limits.{most_depth}

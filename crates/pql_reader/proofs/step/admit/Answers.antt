@@ -1,4 +1,4 @@
-use Rattle.pql_reader.specs.States.{state_of}
+use Rattle.pql_parts.specs.States.{state_of}
 use Rattle.pql_reader.proofs.AdmitLaws.{not_taken}
 use Rattle.pql_reader.proofs.step.admit.Goals as goal
 

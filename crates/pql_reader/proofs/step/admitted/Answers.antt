@@ -1,4 +1,4 @@
-use Rattle.pql_reader.specs.States.{state_of}
+use Rattle.pql_parts.specs.States.{state_of}
 use Rattle.pql_reader.proofs.AdmitLaws.{token_refused, token_admitted}
 use Rattle.pql_reader.proofs.step.admitted.Goals as goal
 

@@ -1,6 +1,6 @@
 use Rattle.std.proofs.Common.{subst}
 use Rattle.pql_lexer.specs.Next.{BeginsWith}
-use Rattle.pql_reader.specs.States.{state_of}
+use Rattle.pql_parts.specs.States.{state_of}
 use Rattle.pql_reader.proofs.AdmitLaws.{no_token, as_long}
 use Rattle.pql_reader.proofs.step.behind.Goals as goal
 

@@ -1,4 +1,4 @@
-use Rattle.pql_reader.proofs.NeedLaws.{few_in}
+use Rattle.pql_parts.proofs.NeedLaws.{few_in}
 use Rattle.pql_reader.proofs.step.step.Goals as goal
 
 pub mode_step-requires : goal.mode_step-requires

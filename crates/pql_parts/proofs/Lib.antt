@@ -1,0 +1,4 @@
+pub mod Heights
+pub mod DepthLaws
+pub mod NeedLaws
+pub mod TakenNames
