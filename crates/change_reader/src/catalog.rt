@@ -85,6 +85,44 @@ fn take_marks(
     Some((transaction, catalog, code, job, rest))
 }
 
+// Copies of certname, version and environment. Texts are copied by groups, since each copy that fails lets go of all that were
+// made before.
+fn own_head(
+    alloc: Global,
+    certname: &str,
+    version: &str,
+    environment: Option<&str>,
+) -> Result<(Text, Text, Option<Text>), AllocError>
+    ensures certname { IfOk result (λ x. x.0 ≡ certname.now) }
+    ensures version { IfOk result (λ x. x.1 ≡ version.now) }
+    ensures environment { IfOk result (λ x. x.2 ≡ option_map (λ s. s.now) environment.entry) }
+{
+    let certname = Text::from_str(alloc, certname)?;
+    let version = Text::from_str(alloc, version)?;
+    let environment = own_optional(alloc, environment)?;
+    Ok((certname, version, environment))
+}
+
+// Copies of the identifiers.
+fn own_marks(
+    alloc: Global,
+    transaction: Option<&str>,
+    catalog: Option<&str>,
+    code: Option<&str>,
+    job: Option<&str>,
+) -> Result<(Option<Text>, Option<Text>, Option<Text>, Option<Text>), AllocError>
+    ensures transaction { IfOk result (λ x. x.0 ≡ option_map (λ s. s.now) transaction.entry) }
+    ensures catalog { IfOk result (λ x. x.1 ≡ option_map (λ s. s.now) catalog.entry) }
+    ensures code { IfOk result (λ x. x.2 ≡ option_map (λ s. s.now) code.entry) }
+    ensures job { IfOk result (λ x. x.3 ≡ option_map (λ s. s.now) job.entry) }
+{
+    let transaction = own_optional(alloc, transaction)?;
+    let catalog = own_optional(alloc, catalog)?;
+    let code = own_optional(alloc, code)?;
+    let job = own_optional(alloc, job)?;
+    Ok((transaction, catalog, code, job))
+}
+
 #[tactic(auto, unfolding(crate::specs::Changes::catalog_at))]
 pub(crate) fn take_catalog(
     alloc: Global,
@@ -110,14 +148,22 @@ pub(crate) fn take_catalog(
     let Some((resources, rest)) = take_distinct_resources(alloc, rest)? else {
         return Ok(None);
     };
+    let (certname, version, environment) = own_head(alloc, certname, version, environment)?;
+    let (transaction_uuid, catalog_uuid, code_id, job_id) = own_marks(
+        alloc,
+        transaction,
+        catalog,
+        code,
+        job,
+    )?;
     let change = CatalogChange {
-        certname: Text::from_str(alloc, certname)?,
-        version: Text::from_str(alloc, version)?,
-        environment: own_optional(alloc, environment)?,
-        transaction_uuid: own_optional(alloc, transaction)?,
-        catalog_uuid: own_optional(alloc, catalog)?,
-        code_id: own_optional(alloc, code)?,
-        job_id: own_optional(alloc, job)?,
+        certname,
+        version,
+        environment,
+        transaction_uuid,
+        catalog_uuid,
+        code_id,
+        job_id,
         stamp,
         producer: own_optional(alloc, producer)?,
         edges,

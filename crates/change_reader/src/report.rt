@@ -162,6 +162,44 @@ fn take_run(
     Some((producer, noop, status, transaction, rest))
 }
 
+// Copies of certname, environment, Puppet's version and the configuration's version. Texts are copied by groups, since each copy
+// that fails lets go of all that were made before.
+fn own_head(
+    alloc: Global,
+    certname: &str,
+    environment: Option<&str>,
+    puppet: Option<&str>,
+    configuration: Option<&str>,
+) -> Result<(Text, Option<Text>, Option<Text>, Option<Text>), AllocError>
+    ensures certname { IfOk result (λ x. x.0 ≡ certname.now) }
+    ensures environment { IfOk result (λ x. x.1 ≡ option_map (λ s. s.now) environment.entry) }
+    ensures puppet { IfOk result (λ x. x.2 ≡ option_map (λ s. s.now) puppet.entry) }
+    ensures configuration { IfOk result (λ x. x.3 ≡ option_map (λ s. s.now) configuration.entry) }
+{
+    let certname = Text::from_str(alloc, certname)?;
+    let environment = own_optional(alloc, environment)?;
+    let puppet = own_optional(alloc, puppet)?;
+    let configuration = own_optional(alloc, configuration)?;
+    Ok((certname, environment, puppet, configuration))
+}
+
+// Copies of producer, status and the transaction's identifier.
+fn own_run(
+    alloc: Global,
+    producer: Option<&str>,
+    status: Option<&str>,
+    transaction: Option<&str>,
+) -> Result<(Option<Text>, Option<Text>, Option<Text>), AllocError>
+    ensures producer { IfOk result (λ x. x.0 ≡ option_map (λ s. s.now) producer.entry) }
+    ensures status { IfOk result (λ x. x.1 ≡ option_map (λ s. s.now) status.entry) }
+    ensures transaction { IfOk result (λ x. x.2 ≡ option_map (λ s. s.now) transaction.entry) }
+{
+    let producer = own_optional(alloc, producer)?;
+    let status = own_optional(alloc, status)?;
+    let transaction = own_optional(alloc, transaction)?;
+    Ok((producer, status, transaction))
+}
+
 #[tactic(auto, unfolding(crate::specs::Changes::report_at))]
 pub(crate) fn take_report(
     alloc: Global,
@@ -187,19 +225,27 @@ pub(crate) fn take_report(
     let Some((metrics, rest)) = take_metrics(alloc, rest)? else {
         return Ok(None);
     };
+    let (certname, environment, puppet_version, configuration_version) = own_head(
+        alloc,
+        certname,
+        environment,
+        puppet,
+        configuration,
+    )?;
+    let (producer, status, transaction_uuid) = own_run(alloc, producer, status, transaction)?;
     let change = ReportChange {
-        certname: Text::from_str(alloc, certname)?,
-        environment: own_optional(alloc, environment)?,
-        puppet_version: own_optional(alloc, puppet)?,
+        certname,
+        environment,
+        puppet_version,
         report_format: format,
-        configuration_version: own_optional(alloc, configuration)?,
+        configuration_version,
         start_time,
         end_time,
         stamp,
-        producer: own_optional(alloc, producer)?,
+        producer,
         noop,
-        status: own_optional(alloc, status)?,
-        transaction_uuid: own_optional(alloc, transaction)?,
+        status,
+        transaction_uuid,
         resources,
         logs,
         metrics,
