@@ -6,9 +6,12 @@ use Rattle.core_state.specs.record_spec.declared.store.StoreRecord.{StoreRecord}
 use Rattle.core_state.specs.core_spec.History.{History}
 use Rattle.core_state.specs.core_spec.Stands.{queue_trace, store_trace}
 use Rattle.core_state.specs.core_laws.Threads.{MomentsAreKept}
+use Rattle.core_state.specs.queue_log.Queued.{queue_down}
 use Rattle.core_state.specs.declared.state.CoreState.{CoreState}
 use Rattle.core_state.specs.Moments.{StandsAmid}
+use Rattle.core_state.specs.Puts.{QueueRoseTwice}
 use Rattle.core_state.specs.StandsFor.{AreOfOneRecord, history_of}
+use Rattle.core_state.proofs.of_fleet_keeper.Within.{rose_from}
 use Rattle.core_course.specs.Sight.{Sight, is_down}
 use Rattle.core_course.specs.Courses.{DisksGo, silent, writes, Link, AreLinked, Course, CountsRise, SameOpening, LogsGrow, Passed, no_event}
 use Rattle.core_course.specs.Work.{IsWork, KeepsMoments, Worked}
@@ -65,6 +68,19 @@ module _ {D K : Type 0} (w : Sight D K) where
           ∙ ap (λ (xs : List StoreRecord). Some xs) (stores_join start records);
     }
 
+    -- a count that rose by two stays so, and did so from any earlier value
+    rose_then : QueueRoseTwice w.faults a.queue b.queue → QueueRoseTwice w.faults a.queue c.queue
+    rose_then (inl rose) = inl (omega (arith, rose, q.counts.queue_a))
+    rose_then (inr rose) = inr (omega (arith, rose, q.counts.queue_b))
+
+    rose_since : QueueRoseTwice w.faults b.queue c.queue → QueueRoseTwice w.faults a.queue c.queue
+    rose_since (inl rose) = inl (rose_from 2 _ _ _ p.counts.queue_a rose)
+    rose_since (inr rose) = inr (rose_from 2 _ _ _ p.counts.queue_b rose)
+
+    twice_join : (down : Bool) → queue_down b.queue ≡ down → queue_down a.queue ≡ false → queue_down c.queue ≡ true → QueueRoseTwice w.faults a.queue c.queue
+    twice_join true is up down = rose_then (p.queue_twice up is)
+    twice_join false is up down = rose_since (q.queue_twice is down)
+
     pub passed_join : Passed w (second ++ first) a c
     passed_join = record {
       events = q.events ∙ (ap (λ (es : History). second ++ es) p.events ∙ sym (append_assoc second first a.events.list));
@@ -73,6 +89,7 @@ module _ {D K : Type 0} (w : Sight D K) where
       opening = openings_join a b c p.opening q.opening;
       counts = counts_join a b c p.counts q.counts;
       stays_down = λ down. q.stays_down (p.stays_down down);
+      queue_twice = twice_join (queue_down b.queue) refl;
       logs = λ up. logs_join (p.logs (up_before second b c q up)) (q.logs up);
     }
 

@@ -9,9 +9,10 @@ use Rattle.core_state.specs.core_spec.declared.event.Event.{Event}
 use Rattle.core_state.specs.core_spec.declared.event.Event.TheVariants.{Claim, Release, Supersede, Fail, Discard}
 use Rattle.core_state.specs.core_spec.History.{History}
 use Rattle.core_state.specs.core_spec.Stands.{queue_trace, store_trace}
-use Rattle.core_state.specs.queue_log.Queued.{queue_pair, queue_moment, queued}
+use Rattle.core_state.specs.queue_log.Queued.{queue_pair, queue_moment, queue_down, queued}
 use Rattle.core_state.specs.declared.state.CoreState.{CoreState}
 use Rattle.core_state.specs.Moments.{IsLater, Within, GoesOn, StandsAmid}
+use Rattle.core_state.specs.Puts.{QueueRoseTwice}
 use Rattle.core_state.specs.Seen.{IsSubmitted}
 use Rattle.core_state.specs.StandsFor.{AreOfOneRecord, history_of}
 use Rattle.core_course.specs.Sight.{Sight, Stood, is_down}
@@ -132,4 +133,6 @@ pub record Passed {D K : Type 0} (w : Sight D K) (more : History) (old new : Cor
   pub opening : SameOpening w old new
   pub counts : CountsRise w old new
   pub stays_down : is_down w old ≡ true → is_down w new ≡ true
+  -- if the queue's log went down, the fault count of one of its disks rose by two
+  pub queue_twice : queue_down old.queue ≡ false → queue_down new.queue ≡ true → QueueRoseTwice w.faults old.queue new.queue
   pub logs : is_down w new ≡ false → LogsGrow w more old new

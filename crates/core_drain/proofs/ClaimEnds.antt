@@ -51,7 +51,7 @@ module _ {D K : Type 0} (w : Sight D K) where
     claim_ends claimed.Rest says a = a.up (λ e. absurd cc) ∙ up
     claim_ends claimed.Done says a = (a.up (λ e. absurd cc) ∙ up, a.nothing refl)
     claim_ends claimed.QueueFault says a =
-        (says.cause.cause refl, ap w.store_down says.store ∙ (core_up w old up).store, inr (fault_left says a))
+        (says.cause.cause refl, ap w.store_down says.store ∙ (core_up w old up).store, inr (says.others.undone ∙ (core_up w old up).done, fault_left says a))
     claim_ends claimed.Spent says a = (a.up (λ e. absurd cc) ∙ up, to_supersede (overfull says a), spent_left says a)
     claim_ends claimed.Down says a = let apart : true ≡ false = sym (says.down.0 refl) ∙ up in cc
     claim_ends claimed.Memory says a = a.up (λ e. absurd cc) ∙ up

@@ -115,6 +115,7 @@ module _ {D K : Type 0} (w : Sight D K) where
     pub down : (came ≡ claimed.Down) ↔ (is_down w old ≡ true)
     pub unchanged : came ≡ claimed.Down → new ≡ old
     pub cause : QueueCounts w.faults old.queue new.queue (came ≡ claimed.QueueFault)
+    pub twice : is_down w old ≡ false → queue_down new.queue ≡ true → QueueRoseTwice w.faults old.queue new.queue
 
   module _ (came : Claimed) (old new : CoreState D K) (says : ClaimSays came old new) where
     abbrev pub claim_events : History
@@ -131,6 +132,7 @@ module _ {D K : Type 0} (w : Sight D K) where
       opening = same_opening w old new says.others says.store;
       counts = queue_counts w (came ≡ claimed.QueueFault) old new says.cause (same_faults w old new says.store);
       stays_down = still_down;
+      queue_twice = went_twice w old new (λ down. says.unchanged (says.down.1 down)) says.twice;
       logs = λ up. record {
         queue = λ told records is.
             says.adds.records (core_up w new up).queue told records is ∙ ap (λ (xs : List QueueRecord). Some (records ++ xs)) (sym (claim_queue came says.adds.more));

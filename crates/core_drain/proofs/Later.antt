@@ -12,7 +12,7 @@ use Rattle.core_course.proofs.Traces.{queue_trace-append}
 use Rattle.command_core.proofs.of_core_state.of_fleet_keeper.Within.{rose_from}
 use Rattle.core_drain.specs.declared.ends.WorkEnd.{WorkEnd}
 use Rattle.core_drain.specs.declared.ends.WorkEnd.TheVariants.{Done, QueueFault, StoreDown, Spent, Down, Memory}
-use Rattle.core_drain.specs.Ends.{SomethingWaits, HasNoRoom, to_settle, to_supersede, QueueRose, LacksDone, RoseBehindFails, EndsSo, EndsHere}
+use Rattle.core_drain.specs.Ends.{SomethingWaits, IsLeft, HasNoRoom, to_settle, to_supersede, QueueRose, LacksDone, RoseBehindFails, EndsSo, EndsHere}
 
 module _ {D K : Type 0} (w : Sight D K) where
   module _ (more : History) (a b c : CoreState D K) (p : Passed w more a b) where
@@ -55,9 +55,9 @@ module _ {D K : Type 0} (w : Sight D K) where
         twice = λ went. twice_later (h.twice went);
       }
 
-      pub fault_later : LacksDone w b c ⊎ SomethingWaits w b c → LacksDone w a c ⊎ SomethingWaits w a c
+      pub fault_later : LacksDone w b c ⊎ IsLeft w b c → LacksDone w a c ⊎ IsLeft w a c
       fault_later (inl lacks) = inl (lacks_later lacks)
-      fault_later (inr waits) = inr (waits_later waits)
+      fault_later (inr left) = inr (left.0, waits_later left.1)
 
       pub here_later : (end : Option WorkEnd) → EndsHere w end b c → EndsHere w end a c
       here_later None h = h

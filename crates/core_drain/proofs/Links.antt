@@ -11,7 +11,7 @@ use Rattle.core_course.specs.table_machine.Table.{Table}
 use Rattle.command_core.specs.core_state.declared.state.CoreState.{CoreState}
 use Rattle.command_core.specs.core_state.Changes.{OthersStay}
 use Rattle.command_core.specs.core_state.Moments.{Within, StandsAmid}
-use Rattle.command_core.specs.core_state.Puts.{QueueCounts}
+use Rattle.command_core.specs.core_state.Puts.{QueueCounts, QueueRoseTwice}
 use Rattle.command_core.specs.core_state.StandsFor.{AreOfOneRecord, history_of}
 use Rattle.core_course.specs.Sight.{Sight, Stood, is_down}
 use Rattle.core_course.specs.Courses.{DisksGo, silent, writes, AreOfOneCall, Link, Course, CountsRise, SameOpening, Passed}
@@ -83,6 +83,19 @@ module _ {D K : Type 0} (w : Sight D K) where
       let a = ap (λ (l : QueueLog D). w.faults (disk_a (queue_pair l))) queue in
       let b = ap (λ (l : QueueLog D). w.faults (disk_b (queue_pair l))) queue in
       record { queue_a = omega (arith, a); queue_b = omega (arith, b); store = same_faults old new store }
+
+  -- a queue that went down, in a call that leaves a core that is down as it is
+  module _ (old new : CoreState D K) (unchanged : is_down w old ≡ true → new ≡ old) (twice : is_down w old ≡ false → queue_down new.queue ≡ true → QueueRoseTwice w.faults old.queue new.queue) where
+    twice_by : (was : Bool) → is_down w old ≡ was → queue_down old.queue ≡ false → queue_down new.queue ≡ true → QueueRoseTwice w.faults old.queue new.queue
+    twice_by true is up down = absurd (let apart : true ≡ false = sym down ∙ (ap (λ (core : CoreState D K). queue_down core.queue) (unchanged is) ∙ up) in cc)
+    twice_by false is up down = twice is down
+
+    pub went_twice : queue_down old.queue ≡ false → queue_down new.queue ≡ true → QueueRoseTwice w.faults old.queue new.queue
+    went_twice = twice_by (is_down w old) refl
+
+  -- nor in one that leaves the queue
+  pub same_twice : (old new : CoreState D K) → new.queue ≡ old.queue → queue_down old.queue ≡ false → queue_down new.queue ≡ true → QueueRoseTwice w.faults old.queue new.queue
+  same_twice old new queue up down = absurd (let apart : true ≡ false = sym down ∙ (ap queue_down queue ∙ up) in cc)
 
   -- ---- as a stretch
 

@@ -95,6 +95,7 @@ module _ {D K : Type 0} (w : Sight D K) where
       opening = same_opening w old new quiet.others quiet.store;
       counts = same_counts w old new quiet.queue quiet.store;
       stays_down = λ down. quiet_down ∙ down;
+      queue_twice = same_twice w old new quiet.queue;
       logs = λ up. record {
         queue = λ told records is.
             none_more (queued w.seen old.queue) (queued w.seen new.queue) records (ap (queued w.seen) quiet.queue) is

@@ -32,7 +32,7 @@ use Rattle.core_drain.proofs.Records.{none_more}
 use Rattle.core_drain.proofs.Settles.{SettleSays}
 use Rattle.core_drain.proofs.Waits.{released_waits, claimed_waits}
 use Rattle.core_drain.specs.Answers.{after_settle}
-use Rattle.core_drain.specs.Ends.{SomethingWaits, to_settle, LacksDone, EndsHere}
+use Rattle.core_drain.specs.Ends.{SomethingWaits, IsLeft, to_settle, LacksDone, EndsHere}
 use Rattle.command_core.specs.log_spec.Limits.{most_log}
 
 pub false_else : (b : Bool) → (b ≡ true → ⊥) → b ≡ false
@@ -111,7 +111,7 @@ module _ {D K : Type 0} (w : Sight D K) where
 
     -- the command was applied, and the queue lacks its Done; or it stays claimed, or is queued again
     fault_left : SettleSays w settled.QueueFault job v old new → SettleAnswers settled.QueueFault job v old new → (undone down : Bool) → new.undone ≡ undone → is_down w new ≡ down
-        → LacksDone w old new ⊎ SomethingWaits w old new
+        → LacksDone w old new ⊎ IsLeft w old new
     fault_left says a true down is how = inl (record {
       undone = is;
       receipt = job.receipt;
@@ -122,8 +122,8 @@ module _ {D K : Type 0} (w : Sight D K) where
       twice = λ went. a.twice up went;
     })
     fault_left says a false true is how =
-        inr (claim_left job.receipt old new (a.waits is) (fault_added says false true is how) (is_claimed_by settled.QueueFault (λ e. cc) a (is_claimed job.receipt old.pending) refl))
-    fault_left says a false false is how = inr (release_left job.receipt old new (a.waits is) says.stands (fault_added says false false is how))
+        inr (is, claim_left job.receipt old new (a.waits is) (fault_added says false true is how) (is_claimed_by settled.QueueFault (λ e. cc) a (is_claimed job.receipt old.pending) refl))
+    fault_left says a false false is how = inr (is, release_left job.receipt old new (a.waits is) says.stands (fault_added says false false is how))
 
     pub settle_ends : (came : Settled) → SettleSays w came job v old new → SettleAnswers came job v old new → EndsHere w (after_settle came) old new
     settle_ends settled.Applied says a = a.up (λ e. absurd cc) (λ e. absurd cc) ∙ up

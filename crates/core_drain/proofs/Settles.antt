@@ -147,6 +147,7 @@ module _ {D K : Type 0} (w : Sight D K) where
     pub down : (came ≡ settled.Down) ↔ (is_down w old ≡ true)
     pub leaves : SettleLeaves w.store_size came job v old new
     pub cause : QueueCounts w.faults old.queue new.queue (came ≡ settled.QueueFault)
+    pub twice : is_down w old ≡ false → queue_down new.queue ≡ true → QueueRoseTwice w.faults old.queue new.queue
     pub store_later : w.store_faults old.store ≤ w.store_faults new.store
 
   module _ (came : Settled) (job : Job) (v : Verdict) (old new : CoreState D K) (submitted : IsSubmitted job.receipt job.command old) (decodes : IsVerdictOf v job.command)
@@ -204,6 +205,7 @@ module _ {D K : Type 0} (w : Sight D K) where
       opening = opening_is;
       counts = queue_counts w (came ≡ settled.QueueFault) old new says.cause says.store_later;
       stays_down = still_down;
+      queue_twice = went_twice w old new unchanged says.twice;
       logs = λ up. subst (λ (more : History). LogsGrow w more old new) (events_up up) (up_logs up);
     }
 

@@ -79,6 +79,7 @@ module _ {D K : Type 0} (w : Sight D K) where
     pub down : (came ≡ answer.Down) ↔ (is_down w old ≡ true)
     pub unchanged : came ≡ answer.Down → new ≡ old
     pub cause : QueueCounts w.faults old.queue new.queue (came ≡ answer.QueueFault)
+    pub twice : is_down w old ≡ false → queue_down new.queue ≡ true → QueueRoseTwice w.faults old.queue new.queue
 
   module _ (came : Submitted) (c : Command) (old new : CoreState D K) (says : SubmitSays came c old new) where
     still_down : is_down w old ≡ true → is_down w new ≡ true
@@ -92,6 +93,7 @@ module _ {D K : Type 0} (w : Sight D K) where
       opening = same_opening w old new says.others says.store;
       counts = queue_counts w (came ≡ answer.QueueFault) old new says.cause (same_faults w old new says.store);
       stays_down = still_down;
+      queue_twice = went_twice w old new (λ down. says.unchanged (says.down.1 down)) says.twice;
       logs = λ up. record {
         queue = λ told records is. queues came c old new says.writes (core_up w new up).queue told records is;
         store = λ start stood told records is.

@@ -107,6 +107,7 @@ module _ {D K : Type 0} (w : Sight D K) where
           let b = ap (λ (l : QueueLog D). w.faults (disk_b (queue_pair l))) says.queue in
           record { queue_a = omega (arith, a); queue_b = omega (arith, b); store = says.cause.later };
       stays_down = still_down;
+      queue_twice = same_twice w old new says.queue;
       logs = λ up. record {
         queue = λ told records is.
             none_more (queued w.seen old.queue) (queued w.seen new.queue) records (ap (queued w.seen) says.queue) is

@@ -60,10 +60,14 @@ pub record RoseBehindFails {D K : Type 0} (w : Sight D K) (n : ℕ) (old new : C
   pub rose : RoseBy n counted (w.store_faults new.store)
   pub fails : (start : History) → Stood w old start → IsAfterFails counted (history_of new start)
 
+-- Something is pending, and no Done is lacking. So only a log can be down.
+abbrev pub IsLeft : {D K : Type 0} → Sight D K → CoreState D K → CoreState D K → Type 0
+IsLeft w old new = (new.undone ≡ false) × SomethingWaits w old new
+
 -- What an end says of the core before the drain and after it.
 abbrev pub EndsSo : {D K : Type 0} → Sight D K → WorkEnd → CoreState D K → CoreState D K → Type 0
 EndsSo w Done old new = (is_down w new ≡ false) × (new.pending ≡ [])
-EndsSo w QueueFault old new = QueueRose w old new × (w.store_down new.store ≡ false) × (LacksDone w old new ⊎ SomethingWaits w old new)
+EndsSo w QueueFault old new = QueueRose w old new × (w.store_down new.store ≡ false) × (LacksDone w old new ⊎ IsLeft w old new)
 EndsSo w StoreDown old new = RoseBehindFails w 2 old new × (w.store_down new.store ≡ true) × SomethingWaits w old new
 EndsSo w Spent old new = (is_down w new ≡ false) × HasNoRoom w old new × SomethingWaits w old new
 EndsSo w Down old new = new ≡ old

@@ -37,6 +37,7 @@ module _ {D K : Type 0} (w : Sight D K) where
     opening = record { found = refl; opened_a = refl; opened_b = refl; lifetimes = refl; store_opened = refl; store_within = λ since was. was };
     counts = record { queue_a = omega arith; queue_b = omega arith; store = omega arith };
     stays_down = λ down. down;
+    queue_twice = λ up down. absurd (let apart : true ≡ false = sym down ∙ up in cc);
     logs = λ up. record {
       queue = λ told records is. is ∙ ap (λ (xs : List QueueRecord). Some xs) (sym (append-nil records));
       store = λ start stood told records is. is ∙ ap (λ (xs : List StoreRecord). Some xs) (sym (append-nil records));
@@ -58,6 +59,7 @@ module _ {D K : Type 0} (w : Sight D K) where
     down = d.down;
     unchanged = d.unchanged;
     cause = d.cause;
+    twice = d.twice;
   }
 
   -- a call that left both logs as they were wrote nothing

@@ -93,6 +93,7 @@ module _ {D K : Type 0} (w : Sight D K) where
           down = d.down;
           unchanged = d.unchanged;
           cause = d.cause;
+          twice = d.twice;
         } in
         let answers : ClaimAnswers w came old new = record { gives = d.gives; nothing = d.nothing; waits = d.waits; spent = d.spent; up = d.up } in
         follows_work (claim_works w came old new says) (λ down. d.unchanged (d.down.1 down)) (after_claim came) (λ up. claim_ends w old new up came says answers)
@@ -113,6 +114,7 @@ module _ {D K : Type 0} (w : Sight D K) where
           down = d.down;
           leaves = d.leaves;
           cause = d.cause;
+          twice = d.twice;
           store_later = d.store_later;
         } in
         let answers : SettleAnswers w came job v old new = record {
@@ -164,6 +166,7 @@ module _ {D K : Type 0} (w : Sight D K) where
           down = d.down;
           unchanged = d.unchanged;
           cause = d.cause;
+          twice = d.twice;
         } in
         record {
           more = submit_events came c;

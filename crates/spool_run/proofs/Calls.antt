@@ -44,7 +44,7 @@ module _ {D K : Type 0} (w : Sight D K) (c : Command) (old new : CoreState D K) 
   queue_failed says pending = (
     record { passed = submit_passes w answer.QueueFault c old new says; link = submit_link w answer.QueueFault c old new says },
     pending,
-    (says.cause.cause refl, ap w.store_down says.store ∙ (core_up w old up).store),
+    (says.cause.cause refl, ap w.store_down says.store ∙ (core_up w old up).store, says.others.undone ∙ (core_up w old up).done),
   )
 
   pub submit_spent : SubmitSays w answer.Spent c old new → is_down w new ≡ is_down w old → CoreStays old new → submits.IsSpent c old → CommandTaken w (Some end.Spent) c old new

@@ -49,7 +49,7 @@ module _ {D K : Type 0} (w : Sight D K) (now : â„¤) (bytes rest : Option (List â
   command_ends still calm x comes received short end.Done d = absurd d
   command_ends still calm x comes received short (end.Bad at) d = absurd d
   command_ends still calm x comes received short end.ReadFault d = absurd d
-  command_ends still calm x comes received short end.QueueFault d = inl (record { items = items; spool = front; took = still; after = (queue_rose_later w past a b c p d.0, d.1, calm, x, comes) })
+  command_ends still calm x comes received short end.QueueFault d = inl (record { items = items; spool = front; took = still; after = (queue_rose_later w past a b c p d.0, d.1, d.2, calm, x, comes) })
   command_ends still calm x comes received short end.StoreDown d = absurd d
   command_ends still calm x comes received short end.StoreFault d = absurd d
   command_ends still calm x comes received short end.Spent d =

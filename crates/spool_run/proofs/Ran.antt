@@ -1,5 +1,5 @@
 -- What a core that was opened, and the items that it took in, make of each history that the files stand for.
-use Rattle.std.proofs.Common.{◌≡◌, ◌∙◌, inl, inr, ⊎_elim, ℕ, ℤ, ◌+◌, ◌≤◌, List, [], ◌∷◌, ◌++◌, arith, refl, sym, ap, subst, IsTrue, Bool, true, false, Option, Some, None, IfSome, is_some, if◌then◌else◌, append-nil}
+use Rattle.std.proofs.Common.{◌≡◌, ◌∙◌, inl, inr, ⊎_elim, ℕ, ℤ, ◌+◌, ◌≤◌, List, [], ◌∷◌, ◌++◌, arith, refl, sym, ap, subst, IsTrue, Bool, true, false, ◌||◌, Option, Some, None, IfSome, is_some, if◌then◌else◌, append-nil}
 use Rattle.std.proofs.lemmas.List.{append_cancel_right}
 use Rattle.spool_text.specs.fleet_ports.Counts.{Rose, RoseBy}
 use Rattle.spool_text.specs.fleet_ports.declared.disk.Disks.{Disks}
@@ -20,10 +20,13 @@ use Rattle.fleet_hub.specs.core_laws.Threads.{dropped}
 use Rattle.fleet_hub.specs.log_pair.Pair.{is_down_of}
 use Rattle.fleet_hub.specs.fleet_keeper.Keeper.{pair_of, faults_of, IsWithin}
 use Rattle.fleet_hub.specs.fleet_keeper.Pairs.{records_at}
+use Rattle.fleet_hub.specs.queue_log.Queued.{queue_down}
+use Rattle.fleet_hub.specs.core_state.Puts as states
 use Rattle.fleet_hub.specs.core_state.StandsFor.{StandsAt, history_of}
 use Rattle.fleet_hub.specs.core_state.Tallies.{tally_of}
 use Rattle.fleet_hub.specs.core_opening.Opened.{LogCore, FilesStand, DisksStand, disks_in}
 use Rattle.fleet_hub.specs.core_course.Sight.{Stood, is_down}
+use Rattle.fleet_hub.proofs.of_core_drain.Links.{core_up}
 use Rattle.fleet_hub.proofs.of_core_course.Stretches.{history_joined}
 use Rattle.fleet_hub.proofs.of_core_course.Uses.{all_are_within}
 use Rattle.spool_run.specs.Rules.{KeepsRules}
@@ -37,7 +40,7 @@ use Rattle.fleet_hub.specs.core_drain.Ends as drains
 use Rattle.fleet_hub.specs.core_drain.Ends.{RoseBehindFails}
 use Rattle.spool_run.proofs.Fails.{fails_fit, together, none_rose}
 use Rattle.spool_run.specs.Summary.{summary_text}
-use Rattle.spool_run.specs.Runs.{Took, DisksLeft, fail_count, StoreRoseBy, StoreRoseBehind, log_sight, IsSoundCore, RanOn, RanThrough, RanSome, QueueRose, QueueIsLater}
+use Rattle.spool_run.specs.Runs.{Took, DisksLeft, fail_count, StoreRoseBy, StoreRoseBehind, log_sight, IsSoundCore, RanOn, RanThrough, RanSome, QueueRose, QueueRoseTwice, QueueIsLater}
 use Rattle.spool_run.proofs.Effects.{takes_effect}
 use Rattle.spool_run.proofs.Printing.{tally_behind}
 
@@ -64,8 +67,23 @@ module _ {D : Type 0} (w : DiskSight D) (disks : Disks D) (opened : LogCore D) (
   queue_rose (inl first) = inl (subst (λ n. Rose n (w.faults after.queue_a)) opened_a first)
   queue_rose (inr second) = inr (subst (λ n. Rose n (w.faults after.queue_b)) opened_b second)
 
+  rose_twice : states.QueueRoseTwice w.faults opened.queue ended.queue → QueueRoseTwice w disks after
+  rose_twice (inl first) = inl (subst (λ n. RoseBy 2 n (w.faults after.queue_a)) opened_a first)
+  rose_twice (inr second) = inr (subst (λ n. RoseBy 2 n (w.faults after.queue_b)) opened_b second)
+
   module _ (now : ℤ) (bytes : Option (List ℕ)) where
     module _ (due : Bool) (items : List Item) (t : TookIn (log_sight w) now bytes due items opened ended) where
+      -- a core that is down, but neither by the store nor for want of a Done, is so by the queue
+      down_parts : (undone queue store : Bool) → undone ≡ false → store ≡ false → undone || (queue || store) ≡ true → queue ≡ true
+      down_parts true queue store done up down = absurd cc
+      down_parts false true store done up down = refl
+      down_parts false false true done up down = absurd cc
+      down_parts false false false done up down = absurd cc
+
+      pub queue_rose_twice : ended.undone ≡ false → is_down_of (pair_of ended.store) ≡ false → is_down (log_sight w) ended ≡ true → QueueRoseTwice w disks after
+      queue_rose_twice done up down =
+          rose_twice (t.passed.queue_twice (core_up (log_sight w) opened opens.up.up).queue (down_parts ended.undone (queue_down ended.queue) (is_down_of (pair_of ended.store)) done up down))
+
       bounded : IsWithin w.faults ended.store (0, w.faults disks.store_a, w.faults disks.store_b)
       bounded = t.passed.opening.store_within (0, w.faults disks.store_a, w.faults disks.store_b) opens.start.within
 

@@ -13,7 +13,7 @@ use Rattle.fleet_hub.specs.core_state.Tallies.{tally_of}
 use Rattle.fleet_hub.specs.core_opening.Opened.{LogCore, disks_in}
 use Rattle.fleet_hub.specs.core_course.Sight.{is_down}
 use Rattle.fleet_hub.specs.core_spec.History.{History}
-use Rattle.fleet_hub.specs.core_drain.Ends.{LacksDone, SomethingWaits}
+use Rattle.fleet_hub.specs.core_drain.Ends.{LacksDone, SomethingWaits, IsLeft}
 use Rattle.fleet_hub.proofs.of_core_state.of_fleet_keeper.Within.{rose_from}
 use Rattle.spool_run.specs.declared.ends.SpoolEnd.{SpoolEnd}
 use Rattle.spool_run.specs.declared.ends.SpoolEnd.TheVariants as end
@@ -27,7 +27,7 @@ use Rattle.spool_run.specs.Summary.{summary_text, Printed, faulty, starved, Clos
 use Rattle.spool_run.specs.Summary as printed
 use Rattle.spool_run.specs.Runs.{log_sight, IsSoundCore, RanSome, NoBatch, CommandComes, CommandIsSpent, CommandWaits, DoneIsLacking, SomethingIsLeft, SweepIsLeft, Anything, RunEnds, IsQuiet, QueueRose, QueueIsLater, HasEnded, NothingFails, IsCalmEnd, IsBadEnd, IsRun, LeavesOpen}
 use Rattle.spool_run.proofs.Printing.{keeps, kept, uncounted, other_cause}
-use Rattle.spool_run.proofs.Ran.{queue_rose, queue_later, store_rose, store_rose_twice, rose_behind, through, through_open, some, all_are_some}
+use Rattle.spool_run.proofs.Ran.{queue_rose, queue_rose_twice, queue_later, store_rose, store_rose_twice, rose_behind, through, through_open, some, all_are_some}
 
 -- ---- tests of statuses
 
@@ -217,12 +217,16 @@ module _ {D : Type 0} (w : DiskSight D) (now : ℤ) (spool spool_after out out_a
 
       -- a fault of the queue, as what waits is settled
       queue_left : (items : List Item) → IfSome spool.bytes (AreInFront now items) → TookIn (log_sight w) now spool.bytes true items opened ended → out_after ≡ out
-          → LacksDone (log_sight w) opened ended ⊎ SomethingWaits (log_sight w) opened ended
+          → is_down_of (pair_of ended.store) ≡ false → LacksDone (log_sight w) opened ended ⊎ IsLeft (log_sight w) opened ended
           → RunEnds status.QueueFault w now spool spool_after out out_after disks after
-      queue_left items front t same (inl lacks) =
+      queue_left items front t same up (inl lacks) =
           inr (inr (inl (came_in true items front t same true (ap (λ (b : Bool). b || (queue_down ended.queue || is_down_of (pair_of ended.store))) lacks.undone) (DoneIsLacking w) lacks)))
-      queue_left items front t same (inr waits) =
-          inr (inr (inr (is_down (log_sight w) ended, came_in true items front t same (is_down (log_sight w) ended) refl (CommandWaits w) waits)))
+      queue_left items front t same up (inr left) =
+          inr (inr (inr (
+            is_down (log_sight w) ended,
+            queue_rose_twice w disks opened opens ended sound now spool.bytes true items t left.0 up,
+            came_in true items front t same (is_down (log_sight w) ended) refl (CommandWaits w) left.1,
+          )))
 
     -- ---- the intake's ends
 
@@ -259,13 +263,17 @@ module _ {D : Type 0} (w : DiskSight D) (now : ℤ) (spool spool_after out out_a
         let it = ends.after in
         at_end status.QueueFault answer closes.0
         (queue_run calm false ends.items ends.spool ends.took closes.1
-        (inr (inl (is_down (log_sight w) ended, came_in calm false ends.items ends.spool ends.took closes.1 (is_down (log_sight w) ended) refl (CommandComes now spool.bytes) (it.2, it.3, it.4))))
+        (inr (inl (
+          is_down (log_sight w) ended,
+          queue_rose_twice w disks opened opens ended sound now spool.bytes false ends.items ends.took it.2 it.1,
+          came_in calm false ends.items ends.spool ends.took closes.1 (is_down (log_sight w) ended) refl (CommandComes now spool.bytes) (it.3, it.4, it.5),
+        )))
         (queue_rose w disks opened opens ended sound it.0))
     closed_run end.QueueFault (inr ends) read answer closes =
         let calm = no_read end.QueueFault tt read in
         at_end status.QueueFault answer closes.0
         (queue_run calm true ends.items ends.spool ends.took closes.1
-        (queue_left calm ends.items ends.spool ends.took closes.1 ends.after.2)
+        (queue_left calm ends.items ends.spool ends.took closes.1 ends.after.1 ends.after.2)
         (queue_rose w disks opened opens ended sound ends.after.0))
     closed_run end.StoreDown ends read answer closes =
         let calm = no_read end.StoreDown tt read in

@@ -18,7 +18,7 @@ use Rattle.fleet_hub.specs.core_course.Sight.{Sight, Stood, is_down}
 use Rattle.fleet_hub.specs.core_course.Courses.{Course, Passed}
 use Rattle.fleet_hub.specs.core_course.Work.{IsWork}
 use Rattle.fleet_hub.specs.core_submits.Submits as submits
-use Rattle.fleet_hub.specs.core_drain.Ends.{HasNoRoom, QueueRose, LacksDone, RoseBehindFails, SomethingWaits}
+use Rattle.fleet_hub.specs.core_drain.Ends.{HasNoRoom, QueueRose, LacksDone, RoseBehindFails, SomethingWaits, IsLeft}
 use Rattle.spool_run.specs.declared.ends.SpoolEnd.{SpoolEnd}
 use Rattle.spool_run.specs.declared.ends.SpoolEnd.TheVariants as end
 use Rattle.spool_run.specs.Rules.{NothingIsDue, HasNoRestart, KeepsRules}
@@ -112,8 +112,8 @@ EndsSo w now end.Done bytes rest old new = TookAll w now bytes whole old new × 
 EndsSo w now (end.Bad at) bytes rest old new = TookAll w now bytes (bad_at at) old new
 EndsSo w now end.ReadFault bytes rest old new = TookSome w now false bytes old new (λ more items. (is_down w new ≡ false) × NothingIsDue more new.pending × WereRead now bytes rest items)
 EndsSo w now end.QueueFault bytes rest old new =
-    TookSome w now false bytes old new (λ more items. QueueRose w old new × (w.store_down new.store ≡ false) × NothingIsDue more new.pending × (c : Command) × ComesNext now bytes items (command c))
-    ⊎ TookSome w now true bytes old new (λ more items. QueueRose w old new × (w.store_down new.store ≡ false) × (LacksDone w old new ⊎ SomethingWaits w old new))
+    TookSome w now false bytes old new (λ more items. QueueRose w old new × (w.store_down new.store ≡ false) × (new.undone ≡ false) × NothingIsDue more new.pending × (c : Command) × ComesNext now bytes items (command c))
+    ⊎ TookSome w now true bytes old new (λ more items. QueueRose w old new × (w.store_down new.store ≡ false) × (LacksDone w old new ⊎ IsLeft w old new))
 EndsSo w now end.StoreDown bytes rest old new =
     TookSome w now true bytes old new (λ more items. RoseBehindFails w 2 old new × (w.store_down new.store ≡ true) × WorkIsLeft w now bytes old new items)
 EndsSo w now end.StoreFault bytes rest old new =

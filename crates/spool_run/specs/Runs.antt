@@ -1,7 +1,7 @@
 -- What a run over a spool does to the history that the files stand for, as they are read, and to its streams.
 use Rattle.std.specs.Prelude.{◌≡◌, ◌⊎◌, ℕ, ◌+◌, ◌-◌, ◌^◌, ◌≤◌, min, ℤ, IsTrue, Bool, true, false, List, [], ◌∷◌, ◌++◌, Option, Some, Ok, IfSome, is_some, if◌then◌else◌}
 use Rattle.std.specs.Io.KnownBytes.{Appends, Keeps, IsAtEnd}
-use Rattle.spool_text.specs.fleet_ports.Counts.{Counts, Rose}
+use Rattle.spool_text.specs.fleet_ports.Counts.{Counts, Rose, RoseBy}
 use Rattle.spool_text.specs.fleet_ports.declared.disk.Disks.{Disks}
 use Rattle.fleet_hub.specs.fleet_rows.declared.change.Change.{Change}
 use Rattle.fleet_hub.specs.fleet_rows.declared.command.Command.{Command}
@@ -192,7 +192,12 @@ SweepIsLeft w now spool disks after more items old new = StoreRoseBehind 1 w dis
 abbrev pub Anything : {D : Type 0} → History → List Item → LogCore D → LogCore D → Type 0
 Anything more items old new = Unit {0}
 
--- what each end says of the spool, of the disks and of what was printed
+-- the fault count of one of the queue's disks rose by two, or stands at 2^64 - 1
+abbrev pub QueueRoseTwice : {D : Type 0} → DiskSight D → Disks D → Disks D → Type 0
+QueueRoseTwice w disks after = RoseBy 2 (w.faults disks.queue_a) (w.faults after.queue_a) ⊎ RoseBy 2 (w.faults disks.queue_b) (w.faults after.queue_b)
+
+-- What each end says of the spool, of the disks and of what was printed. At QueueFault an image may include a record that was left
+-- open only if the queue's log failed twice.
 abbrev pub RunEnds : {D : Type 0} → Status → DiskSight D → ℤ → Stream → Stream → Stream → Stream → Disks D → Disks D → Type 0
 RunEnds status.Done w now spool spool_after out out_after disks after =
     RanThrough w now whole spool.bytes disks after (Appends out.bytes out_after.bytes) × IsAtEnd spool_after.bytes
@@ -203,9 +208,9 @@ RunEnds status.WriteFault w now spool spool_after out out_after disks after =
 RunEnds status.ReadFault w now spool spool_after out out_after disks after = RanSome w now false false spool.bytes disks after (NoBatch now spool.bytes spool_after.bytes)
 RunEnds status.QueueFault w now spool spool_after out out_after disks after =
     NotOpened w disks after status.QueueFault spool spool_after
-    ⊎ ((down : Bool) × RanSome w now false down spool.bytes disks after (CommandComes now spool.bytes))
+    ⊎ ((down : Bool) × (down ≡ true → QueueRoseTwice w disks after) × RanSome w now false down spool.bytes disks after (CommandComes now spool.bytes))
     ⊎ RanSome w now true true spool.bytes disks after (DoneIsLacking w)
-    ⊎ ((down : Bool) × RanSome w now true down spool.bytes disks after (CommandWaits w))
+    ⊎ ((down : Bool) × (down ≡ true → QueueRoseTwice w disks after) × RanSome w now true down spool.bytes disks after (CommandWaits w))
 RunEnds status.StoreDown w now spool spool_after out out_after disks after = RanSome w now true true spool.bytes disks after (SomethingIsLeft w now spool.bytes disks after)
 RunEnds status.StoreFault w now spool spool_after out out_after disks after =
     NotOpened w disks after status.StoreFault spool spool_after

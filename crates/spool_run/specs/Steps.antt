@@ -13,7 +13,7 @@ use Rattle.fleet_hub.specs.core_course.Sight.{Sight, is_down}
 use Rattle.fleet_hub.specs.core_course.Courses.{Link, Passed}
 use Rattle.fleet_hub.specs.core_course.Work.{Worked}
 use Rattle.fleet_hub.specs.core_submits.Submits as submits
-use Rattle.fleet_hub.specs.core_drain.Ends.{HasNoRoom, QueueRose, LacksDone, RoseBehindFails, SomethingWaits}
+use Rattle.fleet_hub.specs.core_drain.Ends.{HasNoRoom, QueueRose, LacksDone, RoseBehindFails, SomethingWaits, IsLeft}
 use Rattle.spool_run.specs.declared.ends.SpoolEnd.{SpoolEnd}
 use Rattle.spool_run.specs.declared.ends.SpoolEnd.TheVariants as end
 use Rattle.spool_run.specs.Rules.{IsBatch, before_work}
@@ -24,7 +24,7 @@ use Rattle.spool_run.specs.Fronts.{IsReadTo}
 
 abbrev pub DrainEnds : {D K : Type 0} → Sight D K → Option SpoolEnd → CoreState D K → CoreState D K → Type 0
 DrainEnds w None old new = (is_down w new ≡ false) × (new.pending ≡ [])
-DrainEnds w (Some end.QueueFault) old new = QueueRose w old new × (w.store_down new.store ≡ false) × (LacksDone w old new ⊎ SomethingWaits w old new)
+DrainEnds w (Some end.QueueFault) old new = QueueRose w old new × (w.store_down new.store ≡ false) × (LacksDone w old new ⊎ IsLeft w old new)
 DrainEnds w (Some end.StoreDown) old new = RoseBehindFails w 2 old new × (w.store_down new.store ≡ true) × SomethingWaits w old new
 DrainEnds w (Some end.Spent) old new = (is_down w new ≡ false) × HasNoRoom w old new × SomethingWaits w old new
 DrainEnds w (Some end.Memory) old new = is_down w new ≡ false
@@ -53,7 +53,7 @@ pub record AddedNothing {D K : Type 0} (w : Sight D K) (item : Item) (old new : 
 -- ---- a command
 
 abbrev pub CommandRefused : {D K : Type 0} → Sight D K → SpoolEnd → Command → CoreState D K → CoreState D K → Type 0
-CommandRefused w end.QueueFault c old new = QueueRose w old new × (w.store_down new.store ≡ false)
+CommandRefused w end.QueueFault c old new = QueueRose w old new × (w.store_down new.store ≡ false) × (new.undone ≡ false)
 CommandRefused w end.Spent c old new = (is_down w new ≡ false) × submits.IsSpent c new
 CommandRefused w end.Memory c old new = is_down w new ≡ false
 CommandRefused w _ c old new = ⊥

@@ -36,6 +36,7 @@ returns-in-Job-clause-worked g c =
       down = c.claim.ensures.does.down;
       unchanged = c.claim.ensures.does.unchanged;
       cause = c.claim.ensures.does.cause;
+      twice = c.claim.ensures.does.twice;
     } in
     worked_on w c.args.core.now c.claim.new.self c.work_on.new.core (claim_works w c.claim.result c.args.core.now c.claim.new.self says) c.work_on.ensures.worked
 
@@ -52,6 +53,7 @@ returns-in-Job-clause-ends g c =
       down = c.claim.ensures.does.down;
       unchanged = c.claim.ensures.does.unchanged;
       cause = c.claim.ensures.does.cause;
+      twice = c.claim.ensures.does.twice;
     } in
     here_later w (claim_events w c.claim.result c.args.core.now c.claim.new.self says) c.args.core.now c.claim.new.self c.work_on.new.core
     (claim_passes w c.claim.result c.args.core.now c.claim.new.self says) (c.claim.ensures.does.up (λ e. let other = sym c.in-Job.is ∙ e in cc) ∙ c.requires.up) c.work_on.result c.work_on.ensures.ends
@@ -69,6 +71,7 @@ returns-in_default-clause-worked g c =
       down = c.claim.ensures.does.down;
       unchanged = c.claim.ensures.does.unchanged;
       cause = c.claim.ensures.does.cause;
+      twice = c.claim.ensures.does.twice;
     } in
     claim_works w c.claim.result c.args.core.now c.claim.new.self says
 
@@ -85,6 +88,7 @@ returns-in_default-clause-ends g c =
       down = c.claim.ensures.does.down;
       unchanged = c.claim.ensures.does.unchanged;
       cause = c.claim.ensures.does.cause;
+      twice = c.claim.ensures.does.twice;
     } in
     let answers : ClaimAnswers w c.claim.result c.args.core.now c.claim.new.self = record {
       gives = c.claim.ensures.does.gives;
@@ -119,6 +123,7 @@ returns-in-Job-clause-claims g c =
       down = c.claim.ensures.does.down;
       unchanged = c.claim.ensures.does.unchanged;
       cause = c.claim.ensures.does.cause;
+      twice = c.claim.ensures.does.twice;
     } in
     claimed_let_go w c.claim.result c.args.core.now c.claim.new.self says c.in-Job.job c.work_on.new.core c.in-Job.is c.work_on.ensures.lets_go
 
@@ -135,6 +140,7 @@ returns-in_default-clause-claims g c =
       down = c.claim.ensures.does.down;
       unchanged = c.claim.ensures.does.unchanged;
       cause = c.claim.ensures.does.cause;
+      twice = c.claim.ensures.does.twice;
     } in
     claims_none w c.claim.result c.args.core.now c.claim.new.self says c.in_default.not-Job
 
@@ -151,6 +157,7 @@ returns-in-Job-clause-last g c =
       down = c.claim.ensures.does.down;
       unchanged = c.claim.ensures.does.unchanged;
       cause = c.claim.ensures.does.cause;
+      twice = c.claim.ensures.does.twice;
     } in
     turn_later g.D.Disk g.K.Keeper c.args.core.now c.claim.new.self c.work_on.new.core (claim_works w c.claim.result c.args.core.now c.claim.new.self says) c.work_on.result c.work_on.ensures.last
 

@@ -31,6 +31,7 @@ returns-in-Memory-clause-worked g c =
       down = c.settle.ensures.does.down;
       leaves = c.settle.ensures.does.leaves;
       cause = c.settle.ensures.does.cause;
+      twice = c.settle.ensures.does.twice;
       store_later = c.settle.ensures.does.store_later;
     } in
     worked_on w c.args.core.now c.settle.new.self c.give_back.new.core (settle_works w c.settle.result c.args.job c.args.verdict c.args.core.now c.settle.new.self c.requires.submitted c.requires.decodes says) c.give_back.ensures.worked
@@ -56,6 +57,7 @@ returns-in_default-clause-worked g c =
       down = c.settle.ensures.does.down;
       leaves = c.settle.ensures.does.leaves;
       cause = c.settle.ensures.does.cause;
+      twice = c.settle.ensures.does.twice;
       store_later = c.settle.ensures.does.store_later;
     } in
     settle_works w c.settle.result c.args.job c.args.verdict c.args.core.now c.settle.new.self c.requires.submitted c.requires.decodes says
@@ -76,6 +78,7 @@ returns-in_default-clause-ends g c =
       down = c.settle.ensures.does.down;
       leaves = c.settle.ensures.does.leaves;
       cause = c.settle.ensures.does.cause;
+      twice = c.settle.ensures.does.twice;
       store_later = c.settle.ensures.does.store_later;
     } in
     let answers : SettleAnswers w c.settle.result c.args.job c.args.verdict c.args.core.now c.settle.new.self = record {
