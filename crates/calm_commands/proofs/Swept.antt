@@ -101,6 +101,7 @@ module _ {D : Type 0} (w : DiskSight D) (counts_now : (d : D) (t : ℕ) (c : Lis
       ends = nothing_ends answer is.ends;
       files = is.files;
       full = λ told spent. inl (is.full told spent);
+      roomy = λ no_spent no_memory. inl is;
       any_moment = λ told ttls history all. record {
         opened = after;
         opening = is.any_moment told ttls history all;
@@ -131,6 +132,7 @@ module _ {D : Type 0} (w : DiskSight D) (counts_now : (d : D) (t : ℕ) (c : Lis
       → CoreWithin w core new (StandsAmid core.tables.ttls (IsSweep kinds m (history_of core start)) (history_of core start) (history_of new start)))
       (stays_up : (answer ≡ came.StoreDown → ⊥) → is_down new ≡ is_down core)
       (full : answer ≡ came.Spent → IsPast (size_of_pair (pair_of core.store)) (store_text (store.Swept kinds m)))
+      (roomless : is_down core ≡ false → IsPast (size_of_pair (pair_of core.store)) (store_text (store.Swept kinds m)) → (answer ≡ came.Spent) ⊎ (answer ≡ came.Memory))
       (cause : Counts (faults_of core.store) (faults_of new.store) (IsStoreFault answer))
       (went : answer ≡ came.StoreDown → is_down_of (pair_of new.store) ≡ true)
       (within : (since : ℕ × ℕ × ℕ) → IsWithin w.faults core.store since → IsWithin w.faults new.store since)
@@ -287,6 +289,8 @@ module _ {D : Type 0} (w : DiskSight D) (counts_now : (d : D) (t : ℕ) (c : Lis
         spent = λ told lacks. absurd (opens.roomy told lacks);
       };
       full = λ told is. inr (core, opens, full (is_spent answer is));
+      roomy = λ no_spent no_memory.
+          inr (core, opens, λ past. ⊎_elim (λ spent. no_spent (ap sweep_status spent)) (λ memory. no_memory (ap sweep_status memory)) (roomless opens.up.up past));
       any_moment = λ told ttls history all. (let on = opens.stands_for told ttls history (opens.read told ttls history all) in sweeps_within ttls history on.0 on.1 (opens.any_moment told ttls history all));
       leaves = λ told ttls history all. leaves_read told ttls history (opens.read told ttls history all);
       left = inr leaves_read;

@@ -141,12 +141,18 @@ pub record SweepsWithin {D : Type 0} (w : DiskSight D) (kinds : Kinds) (m : ℤ)
 abbrev pub StoreIsFull : {D : Type 0} → DiskSight D → Kinds → ℤ → Disks D → Type 0
 StoreIsFull {D} w kinds m disks = (core : LogCore D) × OpensTo w disks core × IsPast (size_of_pair (pair_of core.store)) (store_text (store.Swept kinds m))
 
+-- a core was opened whose store has room for it
+abbrev pub StoreHasRoom : {D : Type 0} → DiskSight D → Kinds → ℤ → Disks D → Type 0
+StoreHasRoom {D} w kinds m disks = (core : LogCore D) × OpensTo w disks core × (IsPast (size_of_pair (pair_of core.store)) (store_text (store.Swept kinds m)) → ⊥)
+
 -- One sweep is added to the history that each image of the disks stands for. After an opening it is added to the one that the
 -- files stand for, as they are read. Damaged files are unchanged.
 pub record IsSweepRun {D : Type 0} (w : DiskSight D) (kinds : Kinds) (m : ℤ) (disks after : Disks D) (answer : Status) : Type 0 where
   pub ends : IsSweepEnd answer
   pub files : TellsFiles w disks answer
   pub full : IsTrue w.tells → answer ≡ status.Spent → LackRoom w disks ⊎ StoreIsFull w kinds m disks
+  -- so Spent comes wherever the store has no room, unless memory is missing
+  pub roomy : answer ≢ status.Spent → answer ≢ status.Memory → IsUnopened w disks after answer ⊎ StoreHasRoom w kinds m disks
   pub any_moment : ForEachImages w disks (SweepsWithin w kinds m disks after)
   pub leaves : ForEachImages w disks (SweepLeaves answer w kinds m after)
   pub left : IsUnopened w disks after answer ⊎ ForEachHistory w disks (SweepLeaves answer w kinds m after)

@@ -24,6 +24,6 @@ returns g c disks opens =
     let kinds = c.args.kinds in
     let now = c.args.now in
     let new = c.sweep-swept.new.self in
-    let run = swept_run w m.counts_now m.only_now kinds now disks c.args.core new opens c.sweep-swept.result (λ down. never (down_of (λ k. is_down_of (pair_of k)) c.args.core) (e.down.0 down) c.requires.up.up) e.adds e.queue e.opening.lifetimes e.stands e.any_moment e.up e.spent e.cause (e.store_down c.requires.up.up).1 e.keeper.bounds e.stays in
+    let run = swept_run w m.counts_now m.only_now kinds now disks c.args.core new opens c.sweep-swept.result (λ down. never (down_of (λ k. is_down_of (pair_of k)) c.args.core) (e.down.0 down) c.requires.up.up) e.adds e.queue e.opening.lifetimes e.stands e.any_moment e.up e.spent e.unspent e.cause (e.store_down c.requires.up.up).1 e.keeper.bounds e.stays in
     subst (λ (s : Status). IsSweepRun w kinds now disks c.into_disks.result s) (sym c.status_of.ensures)
     (subst (λ (x : Disks g.row.D.Denot). IsSweepRun w kinds now disks x (sweep_status c.sweep-swept.result)) (sym c.into_disks.ensures) run)
