@@ -22,6 +22,7 @@ use Rattle.fleet_hub.proofs.of_core_drain.Submits.{SubmitSays, submit_passes, su
 use Rattle.fleet_hub.proofs.of_core_drain.Sweeps.{SweepSays, sweep_passes, sweep_link}
 use Rattle.spool_run.specs.declared.ends.SpoolEnd.TheVariants as end
 use Rattle.spool_run.specs.Rules.{IsBatch}
+use Rattle.spool_run.specs.Intake.{MayHaveSwept}
 use Rattle.spool_run.specs.Steps.{CommandTaken, SweepTaken}
 use Rattle.program_words.specs.json_tree.Limits.{most_payload}
 
@@ -69,11 +70,11 @@ module _ {D K : Type 0} (w : Sight D K) (kinds : Kinds) (m : ℤ) (old new : Cor
     (rose_behind w 1 old new says.adds (says.cause.cause tt), same ∙ up),
   )
 
-  pub store_went : SweepSays w swept.StoreDown kinds m old new → RoseBy 2 (w.store_faults old.store) (w.store_faults new.store) → w.store_down new.store ≡ true → SweepTaken w (Some end.StoreDown) kinds m old new
-  store_went says twice down = (
+  pub store_went : SweepSays w swept.StoreDown kinds m old new → RoseBy 2 (w.store_faults old.store) (w.store_faults new.store) → w.store_down new.store ≡ true → MayHaveSwept w kinds m old new → SweepTaken w (Some end.StoreDown) kinds m old new
+  store_went says twice down images = (
     record { passed = sweep_passes w swept.StoreDown kinds m old new says; link = sweep_link w swept.StoreDown kinds m old new says },
     pending,
-    (rose_behind w 2 old new says.adds twice, down),
+    (rose_behind w 2 old new says.adds twice, down, images),
   )
 
   pub sweep_spent : SweepSays w swept.Spent kinds m old new → is_down w new ≡ is_down w old → CoreStays old new → IsPast (w.store_size old.store) (store_text (store.Swept kinds m)) → SweepTaken w (Some end.Spent) kinds m old new

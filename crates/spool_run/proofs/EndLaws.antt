@@ -61,7 +61,7 @@ module _ {D K : Type 0} (w : Sight D K) (now : ℤ) (bytes rest : Option (List �
   sweep_ends kinds m comes none (end.Bad at) d = absurd d
   sweep_ends kinds m comes none end.ReadFault d = absurd d
   sweep_ends kinds m comes none end.QueueFault d = absurd d
-  sweep_ends kinds m comes none end.StoreDown d = record { items = items; spool = front; took = took; after = (behind_later w past a b c p 2 d.0, d.1, intake.comes (record { kinds = kinds; moment = m; comes = comes; nothing = none })) }
+  sweep_ends kinds m comes none end.StoreDown d = record { items = items; spool = front; took = took; after = (behind_later w past a b c p 2 d.0, d.1, intake.comes (record { kinds = kinds; moment = m; comes = comes; nothing = none }) (λ start stood. d.2 start (p.stands start stood))) }
   sweep_ends kinds m comes none end.StoreFault d =
       record { items = items; spool = front; took = took; after = (behind_later w past a b c p 1 d.0, d.1, record { kinds = kinds; moment = m; comes = comes; nothing = none }) }
   sweep_ends kinds m comes none end.Spent d = inr (record { items = items; spool = front; took = took; after = (d.0, intake.to_sweep kinds m comes none d.1) })

@@ -7,6 +7,7 @@ pub mod OneThread
 mod Printing
 mod Fails
 mod Effects
+mod SweptImages
 mod Ran
 pub mod RunEnds
 pub mod LimitValues

@@ -13,7 +13,7 @@ use Rattle.fleet_hub.specs.core_spec.declared.event.Event.TheVariants.{Submit, S
 use Rattle.fleet_hub.specs.core_spec.History.{History}
 use Rattle.fleet_hub.specs.core_laws.Threads.{items_of}
 use Rattle.fleet_hub.specs.core_state.declared.state.CoreState.{CoreState}
-use Rattle.fleet_hub.specs.core_state.StandsFor.{history_of}
+use Rattle.fleet_hub.specs.core_state.StandsFor.{EachImage, StandsAt, history_of}
 use Rattle.fleet_hub.specs.core_course.Sight.{Sight, Stood, is_down}
 use Rattle.fleet_hub.specs.core_course.Courses.{Course, Passed}
 use Rattle.fleet_hub.specs.core_course.Work.{IsWork}
@@ -86,10 +86,16 @@ pub record SweepComes {D K : Type 0} (w : Sight D K) (now : ℤ) (bytes : Option
   pub comes : ComesNext now bytes items (sweep kinds moment)
   pub nothing : new.pending ≡ []
 
--- a command is pending, or a sweep comes next
+-- each image of the disks stands for the history, or for it and this sweep
+abbrev pub MayHaveSwept : {D K : Type 0} → Sight D K → Kinds → ℤ → CoreState D K → CoreState D K → Type 0
+MayHaveSwept w kinds m old new =
+    (start : History) → Stood w old start
+    → EachImage w.may_leave w.images new (λ q s. StandsAt new.tables.ttls q s (history_of new start) ⊎ StandsAt new.tables.ttls q s (Sweep kinds m ∷ history_of new start))
+
+-- A command is pending. Or a sweep comes next, and only its record may be on the disks beyond the history.
 pub data WorkIsLeft {D K : Type 0} (w : Sight D K) (now : ℤ) (bytes : Option (List ℕ)) (old new : CoreState D K) (items : List Item) : Type 0 where
   waits : SomethingWaits w old new → WorkIsLeft w now bytes old new items
-  comes : SweepComes w now bytes old new items → WorkIsLeft w now bytes old new items
+  comes : (next : SweepComes w now bytes old new items) → MayHaveSwept w next.kinds next.moment old new → WorkIsLeft w now bytes old new items
 
 -- no receipt or no room is left for the command that comes next
 pub record SubmitIsSpent {D K : Type 0} (now : ℤ) (bytes : Option (List ℕ)) (new : CoreState D K) (items : List Item) : Type 0 where

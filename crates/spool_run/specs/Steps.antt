@@ -17,7 +17,7 @@ use Rattle.fleet_hub.specs.core_drain.Ends.{HasNoRoom, QueueRose, LacksDone, Ros
 use Rattle.spool_run.specs.declared.ends.SpoolEnd.{SpoolEnd}
 use Rattle.spool_run.specs.declared.ends.SpoolEnd.TheVariants as end
 use Rattle.spool_run.specs.Rules.{IsBatch, before_work}
-use Rattle.spool_run.specs.Intake.{IsRecordOf, TookIn}
+use Rattle.spool_run.specs.Intake.{IsRecordOf, MayHaveSwept, TookIn}
 use Rattle.spool_run.specs.Fronts.{IsReadTo}
 
 -- ---- a drain
@@ -71,7 +71,7 @@ pub data OneTaken {D K : Type 0} (w : Sight D K) (result : Option SpoolEnd) (c :
 
 abbrev pub SweepFailed : {D K : Type 0} → Sight D K → SpoolEnd → Kinds → ℤ → CoreState D K → CoreState D K → Type 0
 SweepFailed w end.StoreFault kinds m old new = RoseBehindFails w 1 old new × (is_down w new ≡ false)
-SweepFailed w end.StoreDown kinds m old new = RoseBehindFails w 2 old new × (w.store_down new.store ≡ true)
+SweepFailed w end.StoreDown kinds m old new = RoseBehindFails w 2 old new × (w.store_down new.store ≡ true) × MayHaveSwept w kinds m old new
 SweepFailed w end.Spent kinds m old new = (is_down w new ≡ false) × IsPast (w.store_size new.store) (store_text (store.Swept kinds m))
 SweepFailed w end.Memory kinds m old new = is_down w new ≡ false
 SweepFailed w _ kinds m old new = ⊥
