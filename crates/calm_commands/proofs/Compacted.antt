@@ -40,7 +40,7 @@ use Rattle.command_core.specs.core_opening.Opened.{LogCore, CountsIn, LogCoreSta
 use Rattle.calm_commands.specs.declared.status.Status.{Status}
 use Rattle.calm_commands.specs.declared.status.Status.TheVariants as status
 use Rattle.calm_commands.specs.Openings.{DiskSight, queue_files, store_files, ForEachHistory, OpensSo, OpensTo, IsUnopened, IsOpeningEnd}
-use Rattle.calm_commands.specs.Compacting.{compact_status, IsCompactEnd, CompactsWithin, AreCompacted, Turned, QueueTurned, StoreTurned, HasNoTurn, StoreIsSpent, QueueIsSpent, LogIsFull, IsCompactRun}
+use Rattle.calm_commands.specs.Compacting.{compact_status, IsCompactEnd, CompactsOn, CompactsWithin, AreCompacted, Turned, QueueTurned, StoreTurned, HasNoTurn, StoreIsSpent, QueueIsSpent, LogIsFull, IsCompactRun}
 use Rattle.calm_commands.proofs.Faults.{rose}
 
 abbrev CoreWithin : {D : Type 0} → DiskSight D → LogCore D → LogCore D → (Option (List QueueRecord) → Option (List StoreRecord) → Type 0) → Type 0
@@ -160,11 +160,14 @@ module _ {D : Type 0} (w : DiskSight D) (counts_now : (d : D) (t : ℕ) (c : Lis
       any_moment = λ told ttls history all. record {
         opened = after;
         opening = is.any_moment told ttls history all;
-        store_first = λ qa qb sa sb ia ib la lb. is.leaves told ttls history all qa qb sa sb ia ib (only_now after.store_a sa la) (only_now after.store_b sb lb);
-        then_queue = λ qa qb sa sb la lb ia ib. is.leaves told ttls history all qa qb sa sb (only_now after.queue_a qa la) (only_now after.queue_b qb lb) ia ib;
-        queue_waits = λ none no_fault. (refl, refl);
-        store_waits = λ memory. (refl, refl);
+        compacts = record {
+          store_first = λ qa qb sa sb ia ib la lb. is.leaves told ttls history all qa qb sa sb ia ib (only_now after.store_a sa la) (only_now after.store_b sb lb);
+          then_queue = λ qa qb sa sb la lb ia ib. is.leaves told ttls history all qa qb sa sb (only_now after.queue_a qa la) (only_now after.queue_b qb lb) ia ib;
+          queue_waits = λ none no_fault. (refl, refl);
+          store_waits = λ memory. (refl, refl);
+        };
       };
+      each_moment = inl is;
       leaves = is.leaves;
       left = inl is;
       compacted = λ done. absurd (subst IsOpeningEnd done is.ends);
@@ -278,15 +281,16 @@ module _ {D : Type 0} (w : DiskSight D) (counts_now : (d : D) (t : ℕ) (c : Lis
       within : CoreWithin w core new (λ q s. StandsAt core.tables.ttls q s old)
       within = moments history on opens.up.up
 
-      compacts_within : OpensSo w disks (disks_in core) ttls history → CompactsWithin w disks after (compact_status answer) ttls history
-      compacts_within opening = record {
-        opened = disks_in core;
-        opening = opening;
+      compacts_on : CompactsOn w (disks_in core) after (compact_status answer) ttls history
+      compacts_on = record {
         store_first = λ qa qb sa sb ia ib la lb. to_stand qa qb sa sb (within.store_first (records_at queue_at qa qb) (records_at store_at sa sb) (qa, qb, ia, ib, refl) (sa, sb, la, lb, refl));
         then_queue = λ qa qb sa sb la lb ia ib. to_stand qa qb sa sb (within.then_queue (records_at queue_at qa qb) (records_at store_at sa sb) (qa, qb, la, lb, refl) (sa, sb, ia, ib, refl));
         queue_waits = λ none no_fault. same_queue (queue_stays none no_fault);
         store_waits = λ memory. same_store (stays (is_memory answer up memory)).store;
       }
+
+      compacts_within : OpensSo w disks (disks_in core) ttls history → CompactsWithin w disks after (compact_status answer) ttls history
+      compacts_within opening = record { opened = disks_in core; opening = opening; compacts = compacts_on }
 
       -- every image at the end is one within
       leaves_so : DisksStand w.may_leave ttls after (Restart ∷ history)
@@ -325,6 +329,7 @@ module _ {D : Type 0} (w : DiskSight D) (counts_now : (d : D) (t : ℕ) (c : Lis
       };
       full = λ told is. inr (is_full told (is_spent answer is));
       any_moment = λ told ttls history all. (let on = opens.stands_for told ttls history (opens.read told ttls history all) in compacts_within ttls history on.0 on.1 (opens.any_moment told ttls history all));
+      each_moment = inr (core, opens, λ told ttls history files. (let on = opens.stands_for told ttls history files in compacts_on ttls history on.0 on.1));
       leaves = λ told ttls history all. leaves_read told ttls history (opens.read told ttls history all);
       left = inr leaves_read;
       compacted = λ done told ttls history files. (let on = opens.stands_for told ttls history files in compacted_so ttls history on.0 on.1 told (is_done answer done));

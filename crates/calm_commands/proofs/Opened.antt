@@ -45,6 +45,7 @@ printed_opens w disks core answer opens ends =
       };
       full = λ told is. absurd (subst IsPrintEnd is ends);
       any_moment = opens.any_moment;
+      images = opens.images;
       leaves = λ told ttls history all. opens.leaves told ttls history (opens.read told ttls history all);
       left = inr opens.leaves;
       untouched = λ why. absurd (prints_opened answer ends why);
@@ -57,6 +58,7 @@ unopened_opens w disks after answer is = record {
   files = is.files;
   full = is.full;
   any_moment = is.any_moment;
+  images = is.images;
   leaves = is.leaves;
   left = inl is;
   untouched = λ why. is.untouched (queue_held answer why);

@@ -34,7 +34,7 @@ use Rattle.calm_commands.specs.declared.status.Status.{Status}
 use Rattle.calm_commands.specs.declared.status.Status.TheVariants as status
 use Rattle.calm_commands.specs.Openings.{DiskSight, ForEachHistory, OpensSo, OpensTo, IsUnopened, IsOpeningEnd}
 use Rattle.calm_commands.proofs.Faults.{rose}
-use Rattle.calm_commands.specs.Calm.{IsSweepEnd, StandBeforeOrSwept, SweepLeaves, SweepsWithin, IsSweepRun}
+use Rattle.calm_commands.specs.Calm.{IsSweepEnd, StandBeforeOrSwept, SweepLeaves, SweepsOn, SweepsWithin, IsSweepRun}
 use Rattle.calm_commands.specs.Ends.{sweep_status}
 
 -- ---- histories between two
@@ -105,10 +105,13 @@ module _ {D : Type 0} (w : DiskSight D) (counts_now : (d : D) (t : ℕ) (c : Lis
       any_moment = λ told ttls history all. record {
         opened = after;
         opening = is.any_moment told ttls history all;
-        queue_a = refl;
-        queue_b = refl;
-        sweeping = λ qa qb sa sb ia ib la lb. inl (is.leaves told ttls history all qa qb sa sb ia ib (only_now after.store_a sa la) (only_now after.store_b sb lb));
+        sweeps = record {
+          queue_a = refl;
+          queue_b = refl;
+          sweeping = λ qa qb sa sb ia ib la lb. inl (is.leaves told ttls history all qa qb sa sb ia ib (only_now after.store_a sa la) (only_now after.store_b sb lb));
+        };
       };
+      each_moment = inl is;
       leaves = λ told ttls history all. nothing_leaves answer is.ends ttls history (is.leaves told ttls history all);
       left = inl is;
       untouched = λ file at damaged. is.untouched (λ fault. (let apart : status.Damaged file at ≡ status.QueueFault = sym damaged ∙ fault in cc));
@@ -199,14 +202,15 @@ module _ {D : Type 0} (w : DiskSight D) (counts_now : (d : D) (t : ℕ) (c : Lis
       leaves_so came.Down e = absurd (up (sym e))
       leaves_so came.Memory e = up_now (calm_now (λ down. (let apart = e ∙ down in absurd (cc)))) (Restart ∷ history) (ap (λ (h : History). h ++ history) (subst (λ b. SweepAdds b kinds m core.events.list new.events.list) (sym e) adds) ∙ begun_at)
 
-      sweeps_within : OpensSo w disks (disks_in core) ttls history → SweepsWithin w kinds m disks after ttls history
-      sweeps_within opening = record {
-        opened = disks_in core;
-        opening = opening;
+      sweeps_on : SweepsOn w kinds m (disks_in core) after ttls history
+      sweeps_on = record {
         queue_a = ap (λ (q : QueueLog D). disk_a (queue_pair q)) queue;
         queue_b = ap (λ (q : QueueLog D). disk_b (queue_pair q)) queue;
         sweeping = λ qa qb sa sb ia ib la lb. either qa qb sa sb ((moments history on opens.up.up).store_first (records_at queue_at qa qb) (records_at store_at sa sb) (qa, qb, ia, ib, refl) (sa, sb, la, lb, refl));
       }
+
+      sweeps_within : OpensSo w disks (disks_in core) ttls history → SweepsWithin w kinds m disks after ttls history
+      sweeps_within opening = record { opened = disks_in core; opening = opening; sweeps = sweeps_on }
 
     -- ---- what is answered
 
@@ -292,6 +296,7 @@ module _ {D : Type 0} (w : DiskSight D) (counts_now : (d : D) (t : ℕ) (c : Lis
       roomy = λ no_spent no_memory.
           inr (core, opens, λ past. ⊎_elim (λ spent. no_spent (ap sweep_status spent)) (λ memory. no_memory (ap sweep_status memory)) (roomless opens.up.up past));
       any_moment = λ told ttls history all. (let on = opens.stands_for told ttls history (opens.read told ttls history all) in sweeps_within ttls history on.0 on.1 (opens.any_moment told ttls history all));
+      each_moment = inr (core, opens, λ told ttls history files. (let on = opens.stands_for told ttls history files in sweeps_on ttls history on.0 on.1));
       leaves = λ told ttls history all. leaves_read told ttls history (opens.read told ttls history all);
       left = inr leaves_read;
       untouched = λ file at is. absurd (not_damaged answer file at is);

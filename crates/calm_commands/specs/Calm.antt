@@ -17,11 +17,11 @@ use Rattle.command_core.specs.fleet_keeper.Limits.{IsPast}
 use Rattle.command_core.specs.retry_discard.Kept.{dead_at}
 use Rattle.command_core.specs.retry_discard.Line.{IsLineOf}
 use Rattle.command_core.specs.core_opening.declared.faults.FileName.{FileName}
-use Rattle.command_core.specs.core_opening.Opened.{LogCore, FilesStand, DisksStand, AreUntouched}
+use Rattle.command_core.specs.core_opening.Opened.{LogCore, disks_in, FilesStand, DisksStand, AreUntouched}
 use Rattle.calm_commands.specs.declared.status.Status.{Status}
 use Rattle.calm_commands.specs.declared.status.Status.TheVariants as status
 use Rattle.calm_commands.specs.Told.{Stream, AppendsLess}
-use Rattle.calm_commands.specs.Openings.{DiskSight, ForEachHistory, ForEachImages, OpensSo, OpensTo, IsUnopened, LackRoom, TellsFiles, QueueDisksCount, StoreDisksCount, StoreRose, StoreRoseTwice, IsOpeningEnd}
+use Rattle.calm_commands.specs.Openings.{DiskSight, ForEachHistory, ForEachImages, KeepsAllImages, OpensSo, OpensTo, IsUnopened, LackRoom, TellsFiles, QueueDisksCount, StoreDisksCount, StoreRose, StoreRoseTwice, IsOpeningEnd}
 
 -- ---- what is printed
 
@@ -68,6 +68,7 @@ pub record OnlyOpens {D : Type 0} (w : DiskSight D) (disks after : Disks D) (ans
   pub files : TellsFiles w disks answer
   pub full : IsTrue w.tells → answer ≡ status.Spent → LackRoom w disks
   pub any_moment : ForEachImages w disks (OpensSo w disks after)
+  pub images : KeepsAllImages w disks after
   pub leaves : ForEachImages w disks (λ ttls history. DisksStand w.may_leave ttls after (Restart ∷ history))
   pub left : IsUnopened w disks after answer ⊎ ForEachHistory w disks (λ ttls history. DisksStand w.may_leave ttls after (Restart ∷ history))
   pub untouched : IsUnopenedEnd answer → AreUntouched w.seen w.may_leave w.moment w.left_since disks after
@@ -126,16 +127,25 @@ SweepLeaves status.StoreDown w kinds m after ttls history =
     → StandBeforeOrSwept ttls kinds m qa qb sa sb history
 SweepLeaves _ w kinds m after ttls history = DisksStand w.may_leave ttls after (Restart ∷ history)
 
--- First a core is opened. After that the queue's disks are unchanged. Each image of the store's at every moment since, with each
--- of the queue's, stands for the history with or without the sweep.
-pub record SweepsWithin {D : Type 0} (w : DiskSight D) (kinds : Kinds) (m : ℤ) (disks after : Disks D) (ttls : Ttls) (history : History) : Type 0 where
-  pub opened : Disks D
-  pub opening : OpensSo w disks opened ttls history
+-- After the opening the queue's disks are unchanged. Each image of the store's at every moment since, with each of the queue's,
+-- stands for the history with or without the sweep.
+pub record SweepsOn {D : Type 0} (w : DiskSight D) (kinds : Kinds) (m : ℤ) (opened after : Disks D) (ttls : Ttls) (history : History) : Type 0 where
   pub queue_a : after.queue_a ≡ opened.queue_a
   pub queue_b : after.queue_b ≡ opened.queue_b
   pub sweeping : (qa qb sa sb : List ℕ) → w.may_leave opened.queue_a qa → w.may_leave opened.queue_b qb
       → w.left_since after.store_a (w.moment opened.store_a) sa → w.left_since after.store_b (w.moment opened.store_b) sb
       → StandBeforeOrSwept ttls kinds m qa qb sa sb history
+
+-- first a core is opened
+pub record SweepsWithin {D : Type 0} (w : DiskSight D) (kinds : Kinds) (m : ℤ) (disks after : Disks D) (ttls : Ttls) (history : History) : Type 0 where
+  pub opened : Disks D
+  pub opening : OpensSo w disks opened ttls history
+  pub sweeps : SweepsOn w kinds m opened after ttls history
+
+-- No core was opened. Or one was, whatever the images were, and then the sweep was written for what the files stood for.
+abbrev pub SweepsOver : {D : Type 0} → DiskSight D → Kinds → ℤ → Disks D → Disks D → Status → Type 0
+SweepsOver {D} w kinds m disks after answer =
+    IsUnopened w disks after answer ⊎ ((core : LogCore D) × OpensTo w disks core × ForEachHistory w disks (SweepsOn w kinds m (disks_in core) after))
 
 -- a core was opened whose store has no room for the sweep's record
 abbrev pub StoreIsFull : {D : Type 0} → DiskSight D → Kinds → ℤ → Disks D → Type 0
@@ -154,6 +164,7 @@ pub record IsSweepRun {D : Type 0} (w : DiskSight D) (kinds : Kinds) (m : ℤ) (
   -- so Spent comes wherever the store has no room, unless memory is missing
   pub roomy : answer ≢ status.Spent → answer ≢ status.Memory → IsUnopened w disks after answer ⊎ StoreHasRoom w kinds m disks
   pub any_moment : ForEachImages w disks (SweepsWithin w kinds m disks after)
+  pub each_moment : SweepsOver w kinds m disks after answer
   pub leaves : ForEachImages w disks (SweepLeaves answer w kinds m after)
   pub left : IsUnopened w disks after answer ⊎ ForEachHistory w disks (SweepLeaves answer w kinds m after)
   pub untouched : (file : FileName) (at : ℕ) → answer ≡ status.Damaged file at → AreUntouched w.seen w.may_leave w.moment w.left_since disks after

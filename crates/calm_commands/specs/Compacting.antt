@@ -36,12 +36,10 @@ abbrev pub IsCompactEnd : Status → Type 0
 IsCompactEnd status.Done = Unit {0}
 IsCompactEnd s = IsOpeningEnd s
 
--- First a core is opened. Then the store's disks are written, and after them the queue's. Each image of the disks being written,
--- with each of the others, stands for the history and the restart. Only Done and QueueFault write the queue's disks after the
--- opening. Memory leaves the store's as they were, too.
-pub record CompactsWithin {D : Type 0} (w : DiskSight D) (disks after : Disks D) (answer : Status) (ttls : Ttls) (history : History) : Type 0 where
-  pub opened : Disks D
-  pub opening : OpensSo w disks opened ttls history
+-- After the opening the store's disks are written, and after them the queue's. Each image of the disks being written, with each of
+-- the others, stands for the history and the restart. Only Done and QueueFault write the queue's disks after the opening. Memory
+-- leaves the store's as they were, too.
+pub record CompactsOn {D : Type 0} (w : DiskSight D) (opened after : Disks D) (answer : Status) (ttls : Ttls) (history : History) : Type 0 where
   pub store_first : (qa qb sa sb : List ℕ) → w.may_leave opened.queue_a qa → w.may_leave opened.queue_b qb
       → w.left_since after.store_a (w.moment opened.store_a) sa → w.left_since after.store_b (w.moment opened.store_b) sb
       → FilesStand ttls qa qb sa sb (Restart ∷ history)
@@ -50,6 +48,17 @@ pub record CompactsWithin {D : Type 0} (w : DiskSight D) (disks after : Disks D)
       → FilesStand ttls qa qb sa sb (Restart ∷ history)
   pub queue_waits : (answer ≡ status.Done → ⊥) → (answer ≡ status.QueueFault → ⊥) → (after.queue_a ≡ opened.queue_a) × (after.queue_b ≡ opened.queue_b)
   pub store_waits : answer ≡ status.Memory → (after.store_a ≡ opened.store_a) × (after.store_b ≡ opened.store_b)
+
+-- first a core is opened
+pub record CompactsWithin {D : Type 0} (w : DiskSight D) (disks after : Disks D) (answer : Status) (ttls : Ttls) (history : History) : Type 0 where
+  pub opened : Disks D
+  pub opening : OpensSo w disks opened ttls history
+  pub compacts : CompactsOn w opened after answer ttls history
+
+-- No core was opened. Or one was, whatever the images were, and then both logs were written for what the files stood for.
+abbrev pub CompactsOver : {D : Type 0} → DiskSight D → Disks D → Disks D → Status → Type 0
+CompactsOver {D} w disks after answer =
+    IsUnopened w disks after answer ⊎ ((core : LogCore D) × OpensTo w disks core × ForEachHistory w disks (CompactsOn w (disks_in core) after answer))
 
 -- ---- what is written
 
@@ -102,6 +111,7 @@ pub record IsCompactRun {D : Type 0} (w : DiskSight D) (disks after : Disks D) (
   pub files : TellsFiles w disks answer
   pub full : IsTrue w.tells → answer ≡ status.Spent → LackRoom w disks ⊎ LogIsFull w disks after
   pub any_moment : ForEachImages w disks (CompactsWithin w disks after answer)
+  pub each_moment : CompactsOver w disks after answer
   pub leaves : ForEachImages w disks (λ ttls history. DisksStand w.may_leave ttls after (Restart ∷ history))
   pub left : IsUnopened w disks after answer ⊎ ForEachHistory w disks (λ ttls history. DisksStand w.may_leave ttls after (Restart ∷ history))
   pub compacted : answer ≡ status.Done → ForEachHistory w disks (AreCompacted w after)
