@@ -1,7 +1,7 @@
 //! What a core answers to the words of a session.
 use crate::notes::{Notes, gives, number_of, parted, parts_of, says};
 use crate::worker::{Came, rests, send, sweep, work, work_late, work_released};
-use command_core::{Core, DownBy, Submitted, Tally};
+use command_core::{Compacted, Core, DownBy, Submitted, Tally};
 use fleet_keeper::Keeper;
 use fleet_ports::Disk;
 use fleet_rows::{Entity, Kind};
@@ -16,11 +16,11 @@ static FOUR: [&str; 4] = [
     r#"{"certname":"d","values":{"k":1},"producer_timestamp":"2024-05-01T01:00:00Z"}"#,
 ];
 
-/// What a core answered about the four. `taken` has a bit for each receipt (1, 2, 4, 8), `ended` counts the commands that it said had ended.
-/// Then come its own counts, and the log that it is down by. `left` says how many commands are found applied, discarded and pending.
+/// What a core answered about the four. `taken` says which got a receipt, `ended` counts the commands that it said had ended. Then come its
+/// own counts, and the log that it is down by. `left` says how many commands are found applied, discarded and pending.
 #[derive(Clone, Copy)]
 pub(crate) struct Told {
-    pub(crate) taken: u64,
+    pub(crate) taken: [bool; 4],
     pub(crate) ended: u64,
     pub(crate) received: u64,
     pub(crate) applied: u64,
@@ -31,7 +31,7 @@ pub(crate) struct Told {
 
 /// Nothing was answered, and nothing found.
 pub(crate) const SILENCE: Told = Told {
-    taken: 0,
+    taken: [false; 4],
     ended: 0,
     received: 0,
     applied: 0,
@@ -75,23 +75,40 @@ fn fill<D: Disk + Drop, K: Keeper + Drop>(
     Ok(true)
 }
 
-// Submits the four, up to the first that gets no receipt, or beyond it. Answers the bits of those that got one.
+// The same, where it goes on.
+fn is_taken_then<D: Disk + Drop, K: Keeper + Drop>(
+    alloc: Global,
+    core: &mut Core<D, K>,
+    payload: &str,
+    goes_on: bool,
+) -> Result<bool, AllocError> {
+    if goes_on {
+        is_taken(alloc, core, payload)
+    } else {
+        Ok(false)
+    }
+}
+
+// Submits the four, up to the first that gets no receipt, or beyond it. Answers which got one.
 fn send_four<D: Disk + Drop, K: Keeper + Drop>(
     alloc: Global,
     core: &mut Core<D, K>,
     beyond: bool,
-) -> Result<u64, AllocError> {
-    let mut taken = 0;
-    let mut bit = 1_u64;
-    for payload in FOUR.iter() {
-        if is_taken(alloc, core, payload)? {
-            taken |= bit;
-        } else if !beyond {
-            return Ok(taken);
-        }
-        bit = bit.wrapping_mul(2);
+) -> Result<[bool; 4], AllocError> {
+    let first = is_taken(alloc, core, FOUR[0])?;
+    let second = is_taken_then(alloc, core, FOUR[1], first || beyond)?;
+    let third = is_taken_then(alloc, core, FOUR[2], second || beyond)?;
+    let fourth = is_taken_then(alloc, core, FOUR[3], third || beyond)?;
+    Ok([first, second, third, fourth])
+}
+
+// Whether a worker stops: no command is pending, or it goes not beyond a time that ends none.
+fn is_last(came: Came, beyond: bool) -> bool {
+    match came {
+        Came::Ended => false,
+        Came::Done => true,
+        _ => !beyond,
     }
-    Ok(taken)
 }
 
 // Works eight times, up to the first time that ends no command, or beyond it while commands are pending. Answers how many ended, and
@@ -103,14 +120,36 @@ fn turns<D: Disk + Drop, K: Keeper + Drop>(
 ) -> Result<(u64, Came), AllocError> {
     let mut ended: u64 = 0;
     'turns: for _ in 0..8 {
-        match work(alloc, core)? {
-            Came::Ended => ended = ended.saturating_add(1),
-            Came::Done => return Ok((ended, Came::Done)),
-            came if !beyond => return Ok((ended, came)),
-            _ => {}
+        let came = work(alloc, core)?;
+        if is_last(came, beyond) {
+            return Ok((ended, came));
         }
+        ended = ended.saturating_add(u64::from(came == Came::Ended));
     }
     Ok((ended, Came::Failed))
+}
+
+// How many commands end, where it goes on.
+fn ended_then<D: Disk + Drop, K: Keeper + Drop>(
+    alloc: Global,
+    core: &mut Core<D, K>,
+    beyond: bool,
+    goes_on: bool,
+) -> Result<u64, AllocError> {
+    if goes_on {
+        Ok(turns(alloc, core, beyond)?.0)
+    } else {
+        Ok(0)
+    }
+}
+
+// Notes what the core says of itself.
+fn note<D: Disk + Drop, K: Keeper + Drop>(core: &Core<D, K>, told: &mut Told) {
+    let tally = core.tally();
+    told.received = tally.received;
+    told.applied = tally.applied;
+    told.discarded = tally.discarded;
+    told.by = core.down_by();
 }
 
 // Submits the four and works, as far as the disks allow: up to the first call that fails, or beyond it.
@@ -121,15 +160,8 @@ fn serve<D: Disk + Drop, K: Keeper + Drop>(
     beyond: bool,
 ) -> Result<(), AllocError> {
     told.taken = send_four(alloc, core, beyond)?;
-    if told.taken == 15 || beyond {
-        let (ended, _) = turns(alloc, core, beyond)?;
-        told.ended = ended;
-    }
-    let tally = core.tally();
-    told.received = tally.received;
-    told.applied = tally.applied;
-    told.discarded = tally.discarded;
-    told.by = core.down_by();
+    told.ended = ended_then(alloc, core, beyond, told.taken[3] || beyond)?;
+    note(core, told);
     Ok(())
 }
 
@@ -161,39 +193,51 @@ fn keeps(told: &Told) -> bool {
         && all <= told.received.saturating_add(1)
 }
 
-// The bit, where the node has facts.
-fn bit_of<D: Disk + Drop, K: Keeper + Drop>(
+// Whether the node has facts, unless it needn't.
+fn has_facts<D: Disk + Drop, K: Keeper + Drop>(
     alloc: Global,
     core: &Core<D, K>,
     certname: &str,
-    bit: u64,
-) -> Result<u64, AllocError> {
+    must: bool,
+) -> Result<bool, AllocError> {
     let certname = Text::from_str(alloc, certname)?;
-    let has = core.tables().newest(&certname, Kind::Facts).is_some();
-    Ok(if has { bit } else { 0 })
+    let newest = core.tables().newest(&certname, Kind::Facts);
+    Ok(newest.is_some() || !must)
 }
 
-// The bits of those of the four that have ended as they must.
-fn ended_bits<D: Disk + Drop, K: Keeper + Drop>(
+// Whether one command is discarded, unless it needn't.
+fn has_discarded<D: Disk + Drop, K: Keeper + Drop>(core: &Core<D, K>, must: bool) -> bool {
+    core.discards().count() == 1 || !must
+}
+
+// Whether each of these commands has ended as it must.
+fn have_ended<D: Disk + Drop, K: Keeper + Drop>(
     alloc: Global,
     core: &Core<D, K>,
-) -> Result<u64, AllocError> {
-    let first = bit_of(alloc, core, "a", 1)?;
-    let third = bit_of(alloc, core, "c", 4)?;
-    let fourth = bit_of(alloc, core, "d", 8)?;
-    let refused = if core.discards().count() == 1 { 2 } else { 0 };
-    Ok(first | refused | third | fourth)
+    taken: [bool; 4],
+) -> Result<bool, AllocError> {
+    let [first, second, third, fourth] = taken;
+    let first = has_facts(alloc, core, "a", first)?;
+    let third = has_facts(alloc, core, "c", third)?;
+    let fourth = has_facts(alloc, core, "d", fourth)?;
+    let second = has_discarded(core, second);
+    Ok(first && second && third && fourth)
 }
 
-// Whether all pending commands end, and each command with these bits has ended as it must.
+fn is_idle<D: Disk + Drop, K: Keeper + Drop>(core: &Core<D, K>) -> bool {
+    core.pending() == (0, 0)
+}
+
+// Whether all pending commands end, and each of these commands has ended as it must.
 fn all_end<D: Disk + Drop, K: Keeper + Drop>(
     alloc: Global,
     core: &mut Core<D, K>,
-    taken: u64,
+    taken: [bool; 4],
 ) -> Result<bool, AllocError> {
     let (_, last) = turns(alloc, core, false)?;
-    let ended = ended_bits(alloc, core)?;
-    Ok(last == Came::Done && taken & ended == taken && core.pending() == (0, 0))
+    let ended = have_ended(alloc, core, taken)?;
+    let idle = is_idle(core);
+    Ok(last == Came::Done && ended && idle)
 }
 
 // Works so often, and compares what it comes to each time.
@@ -210,6 +254,27 @@ fn work_often<D: Disk + Drop, K: Keeper + Drop>(
     Ok(())
 }
 
+// The calls of a core, in functions that ensure nothing.
+fn is_discarded<D: Disk + Drop, K: Keeper + Drop>(core: &Core<D, K>, receipt: u64) -> bool {
+    core.discards().get(receipt).is_some()
+}
+
+fn compact<D: Disk + Drop, K: Keeper + Drop>(core: &mut Core<D, K>) -> Compacted {
+    core.compact()
+}
+
+fn pending<D: Disk + Drop, K: Keeper + Drop>(core: &Core<D, K>) -> (u32, u64) {
+    core.pending()
+}
+
+fn nodes<D: Disk + Drop, K: Keeper + Drop>(core: &Core<D, K>) -> usize {
+    core.tables().count(Entity::Nodes)
+}
+
+fn down_by<D: Disk + Drop, K: Keeper + Drop>(core: &Core<D, K>) -> DownBy {
+    core.down_by()
+}
+
 // Whether it is so.
 fn is_so<D: Disk + Drop, K: Keeper + Drop>(
     alloc: Global,
@@ -222,14 +287,36 @@ fn is_so<D: Disk + Drop, K: Keeper + Drop>(
         "fill" => fill(alloc, core, number_of(text)),
         "rests" => Ok(rests(core, false)),
         "rests-compacted" => Ok(rests(core, true)),
-        "discarded" => Ok(core.discards().get(number_of(text)).is_some()),
+        "discarded" => Ok(is_discarded(core, number_of(text))),
         "keeps" => {
             told.left = standing(core);
             Ok(keeps(told))
         }
         "ends" => all_end(alloc, core, told.taken),
-        "all-end" => all_end(alloc, core, 15),
+        "all-end" => all_end(alloc, core, [true; 4]),
         _ => Ok(false),
+    }
+}
+
+// Looks at a core, and compares what is seen.
+fn look<D: Disk + Drop, K: Keeper + Drop>(
+    notes: &mut Notes,
+    core: &mut Core<D, K>,
+    told: &mut Told,
+    call: &str,
+    wanted: &str,
+) -> Result<(), AllocError> {
+    let (word, text) = parted(call, " ");
+    match word {
+        "tally" => says(notes, counts(core), wanted),
+        "standing" => says(notes, standing(core), wanted),
+        "pending" => says(notes, pending(core), wanted),
+        "nodes" => says(notes, nodes(core), wanted),
+        "down" => says(notes, down_by(core), wanted),
+        _ => {
+            let fact = is_so(notes.alloc, core, told, word, text);
+            gives(notes, fact, wanted)
+        }
     }
 }
 
@@ -261,12 +348,7 @@ pub(crate) fn answer<D: Disk + Drop, K: Keeper + Drop>(
         "late" => gives(notes, work_late(alloc, core), wanted),
         "released" => gives(notes, work_released(alloc, core), wanted),
         "sweep" => gives(notes, sweep(core), wanted),
-        "compact" => says(notes, core.compact(), wanted),
-        "tally" => says(notes, counts(core), wanted),
-        "standing" => says(notes, standing(core), wanted),
-        "pending" => says(notes, core.pending(), wanted),
-        "nodes" => says(notes, core.tables().count(Entity::Nodes), wanted),
-        "down" => says(notes, core.down_by(), wanted),
-        _ => gives(notes, is_so(alloc, core, told, word, text), wanted),
+        "compact" => says(notes, compact(core), wanted),
+        _ => look(notes, core, told, call, wanted),
     }
 }

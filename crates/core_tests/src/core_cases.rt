@@ -18,7 +18,7 @@ fill 262144 = true;raw x = Full;work 1 = Ended;raw x = Receipt(262145)
 
 # all that is held is there behind compactions, and a claimed command stays claimed
 
-four = 15/compact = Ok/compact = Ok/standing = [0, 0, 4];drain = (4, Done)/compact = Ok/standing = [3, 1, 0];drain/all-end = true
+four = [true, true, true, true]/compact = Ok/compact = Ok/standing = [0, 0, 4];drain = (4, Done)/compact = Ok/standing = [3, 1, 0];drain/all-end = true
 
 serve/compact = Ok/compact = Ok/standing = [3, 1, 0];drain = (0, Done)/compact = Ok/standing = [3, 1, 0];drain/all-end = true
 

@@ -8,7 +8,8 @@ use crate::notes::{Notes, behind, both, number_of, parted, parts_of, says};
 use crate::records::{file, record_of};
 use fleet_keeper::store_records::read_store;
 use fleet_keeper::{
-    Keeper, Kept, MemoryKeeper, Numbers, Side, Spelt, StoreRecord, StoreRecords, open_keeper,
+    Keeper, Kept, LogKeeper, MemoryKeeper, Numbers, Side, Spelt, StoreRecord, StoreRecords,
+    open_keeper,
 };
 use fleet_ports::Disk;
 use port_memory::FuseDisk;
@@ -209,6 +210,29 @@ fn all_three(
     third
 }
 
+// Compares which file counts, and the numbers of its records.
+fn found<D: Disk + Drop>(
+    notes: &mut Notes,
+    keeper: &LogKeeper<D>,
+    run: &mut Run,
+    wanted: &str,
+) -> Result<(), AllocError> {
+    let side = keeper.side();
+    run.second = side == Side::B;
+    says(notes, (side, run.left), wanted)
+}
+
+// Compares which file counts, whether the keeper is down, and its faults.
+fn stood<D: Disk + Drop>(
+    notes: &mut Notes,
+    keeper: &LogKeeper<D>,
+    run: &mut Run,
+    wanted: &str,
+) -> Result<(), AllocError> {
+    run.faults = keeper.faults();
+    says(notes, (keeper.side(), keeper.is_down(), run.faults), wanted)
+}
+
 // Opens a keeper, makes the calls and notes the run. Compared are which file counts and the numbers of its records, or why the files
 // aren't opened; the answers; and which file counts then, whether the keeper is down, and its faults.
 fn session<D: Disk + Drop>(
@@ -226,12 +250,9 @@ fn session<D: Disk + Drop>(
             let mut keeper = keeper;
             run.left = digits(&records);
             drop(records);
-            run.second = keeper.side() == Side::B;
-            let found = says(notes, (keeper.side(), run.left), wanted);
+            let found = found(notes, &keeper, run, wanted);
             let played = calls(notes, &mut keeper, run, words);
-            run.faults = keeper.faults();
-            let standing = (keeper.side(), keeper.is_down(), run.faults);
-            let stood = says(notes, standing, state);
+            let stood = stood(notes, &keeper, run, state);
             let disks = keeper.into_disks();
             behind(all_three(found, played, stood), disks)
         }
@@ -342,6 +363,22 @@ fn disk_of(alloc: Global, names: &str, fault: Fault, place: u64) -> Result<FuseD
     Ok(fused(disk, fault, place))
 }
 
+fn two_disks(alloc: Global, files: &str, fault: Fault) -> Result<(FuseDisk, FuseDisk), AllocError> {
+    let (a, b) = parted(files, " ");
+    both(disk_of(alloc, a, fault, 0), disk_of(alloc, b, fault, 1))
+}
+
+fn two_parts(
+    notes: &mut Notes,
+    disks: (FuseDisk, FuseDisk),
+    run: &mut Run,
+    texts: [&str; 2],
+    fault: Fault,
+) -> Result<(FuseDisk, FuseDisk), AllocError> {
+    let disks = part(notes, disks, run, texts[0], fault)?;
+    part(notes, disks, run, texts[1], fault)
+}
+
 // A trial shows that new records are there which no answer acknowledged, and that the keeper went down.
 fn shown_by(run: &Run) -> u64 {
     let untold = if run.second && run.kept != 77 { 32 } else { 0 };
@@ -354,16 +391,10 @@ pub(crate) fn try_keeper(notes: &mut Notes, script: &str, fault: Fault) -> Resul
     let ([files, first, second], rest) = parts_of(script, "/");
     let ([third, fourth, more], _) = parts_of(rest, "/");
     says(notes, more.is_empty(), "true")?;
-    let (a, b) = parted(files, " ");
-    let disks = both(
-        disk_of(notes.alloc, a, fault, 0),
-        disk_of(notes.alloc, b, fault, 1),
-    )?;
     let mut run = UNOPENED;
-    let disks = part(notes, disks, &mut run, first, fault)?;
-    let disks = part(notes, disks, &mut run, second, fault)?;
-    let disks = part(notes, disks, &mut run, third, fault)?;
-    let disks = part(notes, disks, &mut run, fourth, fault)?;
+    let disks = two_disks(notes.alloc, files, fault)?;
+    let disks = two_parts(notes, disks, &mut run, [first, second], fault)?;
+    let disks = two_parts(notes, disks, &mut run, [third, fourth], fault)?;
     drop(disks);
     Ok(shown_by(&run))
 }

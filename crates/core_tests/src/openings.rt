@@ -39,6 +39,24 @@ fn disks_in<D: Disk + Drop>(core: CoreState<D, LogKeeper<D>>) -> Disks<D> {
     }
 }
 
+fn found_core<D: Disk + Drop>(
+    notes: &mut Notes,
+    core: CoreState<D, LogKeeper<D>>,
+    wanted: &str,
+) -> Result<Disks<D>, AllocError> {
+    let compared = says(notes, counted(&core), wanted);
+    behind(compared, disks_in(core))
+}
+
+fn found_fault<D: Disk + Drop>(
+    notes: &mut Notes,
+    why: OpenCoreFault,
+    disks: Disks<D>,
+    wanted: &str,
+) -> Result<Disks<D>, AllocError> {
+    behind(says(notes, why, wanted), disks)
+}
+
 // Opens the files, and compares what is found, or why they aren't opened.
 fn found<D: Disk + Drop>(
     notes: &mut Notes,
@@ -46,11 +64,8 @@ fn found<D: Disk + Drop>(
     wanted: &str,
 ) -> Result<Disks<D>, AllocError> {
     match opened(notes.alloc, disks) {
-        Ok(core) => {
-            let compared = says(notes, counted(&core), wanted);
-            behind(compared, disks_in(core))
-        }
-        Err((why, disks)) => behind(says(notes, why, wanted), disks),
+        Ok(core) => found_core(notes, core, wanted),
+        Err((why, disks)) => found_fault(notes, why, disks, wanted),
     }
 }
 

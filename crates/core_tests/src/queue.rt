@@ -74,6 +74,22 @@ pub(crate) fn group(
     Ok(Some((group, Moment::from_nanosecond(stamp as i128))))
 }
 
+/// Adds a command of this size and group. Its receipt, or none where there is no room.
+pub(crate) fn added(
+    alloc: Global,
+    queue: &mut Queue,
+    size: usize,
+    group: Option<(Group, Moment)>,
+) -> Result<Option<u64>, AllocError> {
+    match command(alloc, size) {
+        Ok(command) => queue.add(command, group),
+        Err(fault) => {
+            drop(group);
+            Err(fault)
+        }
+    }
+}
+
 impl Queue {
     pub(crate) fn new(alloc: Global) -> Queue {
         Queue {

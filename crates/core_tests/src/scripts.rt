@@ -2,7 +2,7 @@
 ghost use Rattle.std.specs.Prelude.{◌<◌};
 
 use crate::plain::{Waiting, told_of};
-use crate::queue::{Queue, command, group};
+use crate::queue::{Queue, added, group};
 use fleet_rows::Kind;
 use std::alloc::{AllocError, Global};
 
@@ -32,7 +32,7 @@ fn add(
     let stamp = below(state, 5) as i64;
     let size = below(state, 9);
     let group = group(alloc, node, KINDS[kind], stamp)?;
-    let Some(receipt) = queue.add(command(alloc, size as usize)?, group)? else {
+    let Some(receipt) = added(alloc, queue, size as usize, group)? else {
         return Ok(true);
     };
     plain.push(Waiting {

@@ -1,8 +1,25 @@
 //! Pending commands: what the list of them answers to the words of a case.
 use crate::notes::{Notes, gives, number_of, parted, parts_of, says};
-use crate::queue::{Queue, command, group};
+use crate::queue::{Queue, added, command, group};
 use fleet_rows::Kind;
 use std::alloc::{AllocError, Global};
+use supersede_core::Pending;
+
+fn least(pending: &Pending) -> Option<u64> {
+    pending.least()
+}
+
+fn count(pending: &Pending) -> u32 {
+    pending.count()
+}
+
+fn queued(pending: &Pending) -> u32 {
+    pending.queued()
+}
+
+fn size(pending: &Pending) -> u64 {
+    pending.size()
+}
 
 fn stamp_of(word: &str) -> i64 {
     word.parse::<i64>().unwrap_or(0)
@@ -23,8 +40,7 @@ fn add(
     };
     let node = (word != "single").then_some(number_of(node) as usize);
     let group = group(alloc, node, kind, stamp_of(stamp))?;
-    let command = command(alloc, number_of(size) as usize)?;
-    queue.add(command, group)
+    added(alloc, queue, number_of(size) as usize, group)
 }
 
 // Adds as many commands of one group as there is room for, their stamps so far apart.
@@ -39,6 +55,16 @@ fn fill(alloc: Global, queue: &mut Queue, apart: i64) -> Result<bool, AllocError
     Ok(true)
 }
 
+// Looks at the list, and compares what is seen.
+fn look(notes: &mut Notes, pending: &Pending, word: &str, wanted: &str) -> Result<(), AllocError> {
+    match word {
+        "least" => says(notes, least(pending), wanted),
+        "count" => says(notes, count(pending), wanted),
+        "queued" => says(notes, queued(pending), wanted),
+        _ => says(notes, size(pending), wanted),
+    }
+}
+
 // `facts`, `catalog` and `single` add a command of a node's facts or catalog, or of no group, with a stamp and a payload of so many bytes.
 // `fill` adds 262,144 of one group. `mark`, `unmark`, `take` and `fail` stand for a claim, a release, an end and a failure.
 fn answer(notes: &mut Notes, queue: &mut Queue, item: &str) -> Result<(), AllocError> {
@@ -51,10 +77,7 @@ fn answer(notes: &mut Notes, queue: &mut Queue, item: &str) -> Result<(), AllocE
         "unmark" => says(notes, queue.unmark(number_of(text)), wanted),
         "take" => says(notes, queue.take(number_of(text)), wanted),
         "fail" => says(notes, queue.count_failure(number_of(text)), wanted),
-        "least" => says(notes, queue.pending.least(), wanted),
-        "count" => says(notes, queue.pending.count(), wanted),
-        "queued" => says(notes, queue.pending.queued(), wanted),
-        "size" => says(notes, queue.pending.size(), wanted),
+        "least" | "count" | "queued" | "size" => look(notes, &queue.pending, word, wanted),
         _ => gives(notes, add(alloc, queue, word, text), wanted),
     }
 }
