@@ -1,7 +1,8 @@
 //! Requests that clients were seen to send, one after the other on one link: two of `pypuppetdb`, two of Puppet's own terminus.
 use crate::link::{Pieces, readings};
+use crate::wrong::{Wrong, holds};
 use port_memory::json_tree::Bytes;
-use std::test::Fail;
+use std::alloc::{AllocError, Global};
 
 const SENT: [&[u8]; 4] = [
     b"GET /pdb/query/v4/nodes?query=%5B%22%3D%22%2C+%22facts_environment%22%2C+%22production%22%5D&order_by=%5B%7B%22field%2\
@@ -83,20 +84,40 @@ Host=puppetdb.example.com:8081 \
 []/",
 ];
 
-#[test]
-fn requests_of_clients_are_read(rt: HostRuntime) -> Result<(), Fail> {
-    let alloc = rt.alloc();
+fn all_sent(alloc: Global) -> Result<Vec<u8>, AllocError> {
     let mut bytes = Vec::new(alloc);
-    let mut text = Vec::new(alloc);
-    for (sent, read) in SENT.iter().zip(READ.iter()) {
+    for sent in SENT.iter() {
         bytes.extend_from_slice(sent)?;
+    }
+    Ok(bytes)
+}
+
+fn all_read(alloc: Global) -> Result<Vec<u8>, AllocError> {
+    let mut text = Vec::new(alloc);
+    for read in READ.iter() {
         text.extend_from_slice(read)?;
     }
     text.extend_from_slice(b"ended/")?;
-    for piece in [1, 65_536] {
-        let mut link = Pieces::new(Bytes::from_slice(alloc, bytes.as_slice())?, piece, 0);
-        let read = readings(alloc, &mut link, 5)?;
-        assert_eq!(rt; read.as_slice(), text.as_slice(), "in pieces of {piece}");
-    }
-    Ok(())
+    Ok(text)
+}
+
+fn readings_in(alloc: Global, piece: usize) -> Result<Vec<u8>, AllocError> {
+    let bytes = all_sent(alloc)?;
+    let mut link = Pieces::new(Bytes::from_vec(bytes), piece, 0);
+    readings(alloc, &mut link, 5)
+}
+
+fn are_read_in(alloc: Global, piece: usize) -> Result<bool, AllocError> {
+    let wanted = all_read(alloc)?;
+    Ok(readings_in(alloc, piece)?.as_slice() == wanted.as_slice())
+}
+
+fn are_read(alloc: Global) -> Result<(), Wrong> {
+    holds(are_read_in(alloc, 1)?, 0)?;
+    holds(are_read_in(alloc, 65_536)?, 1)
+}
+
+#[test]
+fn requests_of_clients_are_read(rt: HostRuntime) -> Result<(), Wrong> {
+    are_read(rt.alloc())
 }
