@@ -8,7 +8,7 @@ use Rattle.pql_spec.specs.query_spec.Query.{is_null, Clause, no_clause, Level, l
 use Rattle.pql_spec.specs.declared.token.Token.{Token}
 use Rattle.pql_spec.specs.declared.token.Token.TheVariants.{Word as word, Literal as literal, OpenBracket as open_bracket, CloseBracket as close_bracket, OpenBrace as open_brace, CloseBrace as close_brace, CloseParen as close_paren, In as in_word, Is as is_word, Null as null_word, By as by_word}
 use Rattle.pql_spec.specs.Grammar.{Tail, among_rows, level_with, is_count, empty}
-use Rattle.pql_machine.specs.Machine.{Pending, Frame, parens, implicit, inner, Head, Owner, outermost, right_of, Stage, group_by, group_next, group_behind, order_by, order_next, order_behind, order_directed, limit_count, behind_limit, offset_count, behind_offset, Column, column_next, column_behind, in_function, in_argument, column_closed, goes, inner_goes, head_goes, Mode, operand, named, compare_to, differ_from, match_with, null_or_not, not_null, left_next, left_behind, in_expected, right, literal_next, literal_behind, inner_bracket, inner_columns, inner_brace, State, start, headed, head_columns, head_brace, body, within, done, paged, complete, negate, region, level_done, and_then, read}
+use Rattle.pql_machine.specs.Machine.{Pending, Frame, parens, implicit, inner, Head, Owner, outermost, right_of, PagingStage, group_by, group_next, group_behind, order_by, order_next, order_behind, order_directed, limit_count, behind_limit, offset_count, behind_offset, Column, column_next, column_behind, in_function, in_argument, column_closed, goes, inner_goes, head_goes, Mode, operand, named, compare_to, differ_from, match_with, null_or_not, not_null, left_next, left_behind, in_expected, right, literal_next, literal_behind, inner_bracket, inner_columns, inner_brace, State, start, headed, head_columns, head_brace, body, within, done, paged, complete, negate, region, level_done, and_then, read}
 use Rattle.pql_machine.specs.Least.{some_name, some_text, put, wrap, wrap_nothing, wrap_level, least, least_level, least_query}
 use Rattle.pql_machine.specs.Depth.{depth_of}
 use Rattle.pql_machine.proofs.Fresh.{some-fresh}
@@ -67,7 +67,7 @@ owner_end (right_of fs ls e cs p n) = all_ends fs
 abbrev pub zero_count : Literal
 zero_count = record { value = number (codes "0"); place = 0 ∷ [] }
 
-abbrev pub stage_end : Stage → List Token → List Token
+abbrev pub stage_end : PagingStage → List Token → List Token
 stage_end group_by r = by_word ∷ word some_name ∷ close_brace ∷ r
 stage_end (group_next cs) r = word some_name ∷ close_brace ∷ r
 stage_end (group_behind cs c) r = close_brace ∷ r
@@ -147,7 +147,7 @@ module _ (h : Head) where
         r.2 ∙ wrap-height h fs (put p n f) ∙ ap (depth_of fs) (put-height p n f ∙ sym (put-height p n u)) ∙ sym (wrap-height h fs (put p n u)),
       )
 
-  paged-ends : (o : Owner) (k : Clause) (g : Tail) (x : Stage) → Reads (paged h o k g x) (stage_end x (owner_end o)) (wrap_level h o k)
+  paged-ends : (o : Owner) (k : Clause) (g : Tail) (x : PagingStage) → Reads (paged h o k g x) (stage_end x (owner_end o)) (wrap_level h o k)
   unfolding is_count
   paged-ends o k g group_by = paged-depth o k _
   paged-ends o k g (group_next cs) = paged-depth o k _

@@ -5,7 +5,7 @@ use Rattle.pql_spec.specs.declared.token.Token.{Token}
 use Rattle.pql_spec.specs.declared.token.Token.TheVariants.{Word as word, Literal as literal, OpenBracket as open_bracket, CloseBracket as close_bracket, OpenBrace as open_brace, CloseBrace as close_brace, CloseParen as close_paren, In as in_word, Is as is_word, Null as null_word, By as by_word}
 use Rattle.pql_spec.specs.Texts.{IsToken}
 use Rattle.pql_spec.specs.Tokens.{a_word, a_number, a_text, a_mark, word_token, mark_token}
-use Rattle.pql_machine.specs.Machine.{Frame, parens, implicit, inner, Owner, outermost, right_of, Stage, group_by, group_next, group_behind, order_by, order_next, order_behind, order_directed, limit_count, behind_limit, offset_count, behind_offset, Column, column_next, column_behind, in_function, in_argument, column_closed, Mode, operand, named, compare_to, differ_from, match_with, null_or_not, not_null, left_next, left_behind, in_expected, right, literal_next, literal_behind, inner_bracket, inner_columns, inner_brace, State, start, headed, head_columns, head_brace, body, within, done, paged, complete}
+use Rattle.pql_machine.specs.Machine.{Frame, parens, implicit, inner, Owner, outermost, right_of, PagingStage, group_by, group_next, group_behind, order_by, order_next, order_behind, order_directed, limit_count, behind_limit, offset_count, behind_offset, Column, column_next, column_behind, in_function, in_argument, column_closed, Mode, operand, named, compare_to, differ_from, match_with, null_or_not, not_null, left_next, left_behind, in_expected, right, literal_next, literal_behind, inner_bracket, inner_columns, inner_brace, State, start, headed, head_columns, head_brace, body, within, done, paged, complete}
 use Rattle.pql_machine.specs.Least.{some_name, some_text}
 use Rattle.pql_machine.proofs.Completion.{zero_count, all_ends, list_test, braces, column_end, mode_end, body_end, owner_end, stage_end, completion}
 
@@ -78,7 +78,7 @@ module _ (r : List Token) (a : Are r) where
   column_ended (in_argument c g d) = (paren_end, (bracket_end, a))
   column_ended (column_closed c x) = (bracket_end, a)
 
-  stage_ended : (x : Stage) → Are (stage_end x r)
+  stage_ended : (x : PagingStage) → Are (stage_end x r)
   stage_ended group_by = (by_is, (a_name, (brace_end, a)))
   stage_ended (group_next cs) = (a_name, (brace_end, a))
   stage_ended (group_behind cs c) = (brace_end, a)

@@ -12,7 +12,7 @@ use Rattle.pql_spec.specs.query_spec.Query.{Filter, compare, matches, is_null, s
 use Rattle.pql_spec.specs.declared.token.Token.{Token}
 use Rattle.pql_spec.specs.declared.token.Token.TheVariants.{Word as word, Literal as literal, OpenBracket as open_bracket, CloseBracket as close_bracket, OpenBrace as open_brace, CloseBrace as close_brace, OpenParen as open_paren, CloseParen as close_paren, Comma as comma, Bang as bang, Tilde as tilde, Comparison as comparison, Differs as differs, And as and_word, Or as or_word, In as in_word, Is as is_word, Not as not_word, Null as null_word, Group as group_word, Order as order_word, By as by_word, Asc as asc_word, Desc as desc_word, Limit as limit_word, Offset as offset_word}
 use Rattle.pql_spec.specs.Grammar.{Tail, among, pattern, is_count, number_of, join_all, empty, with_group, with_order}
-use Rattle.pql_machine.specs.Machine.{Pending, Frame, parens, implicit, inner, Head, Owner, outermost, right_of, Stage, group_by, group_next, group_behind, order_by, order_next, order_behind, order_directed, limit_count, behind_limit, offset_count, behind_offset, Column, column_next, Gone, goes, ends, column_step, inner_goes, Mode, operand, named, compare_to, differ_from, match_with, null_or_not, not_null, left_next, left_behind, in_expected, right, literal_next, literal_behind, inner_bracket, inner_columns, inner_brace, State, start, headed, head_columns, head_brace, body, within, done, paged, complete, nothing, finish, region, level_done, from_end, from_offset, from_limit, from_order, may_group, level_ends, clause_ends, parens_end, operand_begins, with_text, with_count, mode_step, stage_step, body_step, region_ends, done_step, step}
+use Rattle.pql_machine.specs.Machine.{Pending, Frame, parens, implicit, inner, Head, Owner, outermost, right_of, PagingStage, group_by, group_next, group_behind, order_by, order_next, order_behind, order_directed, limit_count, behind_limit, offset_count, behind_offset, Column, column_next, Gone, goes, ends, column_step, inner_goes, Mode, operand, named, compare_to, differ_from, match_with, null_or_not, not_null, left_next, left_behind, in_expected, right, literal_next, literal_behind, inner_bracket, inner_columns, inner_brace, State, start, headed, head_columns, head_brace, body, within, done, paged, complete, nothing, finish, region, level_done, from_end, from_offset, from_limit, from_order, may_group, level_ends, clause_ends, parens_end, operand_begins, with_text, with_count, mode_step, stage_step, body_step, region_ends, done_step, step}
 use Rattle.pql_machine.specs.Least.{some_name, put, wrap, wrap_nothing, wrap_level, least, need}
 use Rattle.pql_machine.specs.Depth.{joined}
 use Rattle.pql_machine.proofs.Heights.{tall-append, join_any-height, put-height, wrap-height, joined-mono, put-mono, depth-mono}
@@ -148,7 +148,7 @@ counted-grows m (number s) f q e b = choose (is_count s) (Some (f (number_of s))
 counted-grows m (string s) f q e b = none_some q e
 counted-grows m (boolean c) f q e b = none_some q e
 
-stage-grows : (h : Head) (o : Owner) (k : Clause) (g : Tail) (x : Stage) (t : Token) (q : State) → stage_step h o k g x t ≡ Some q → level_height (wrap_level h o k) ≤ need q
+stage-grows : (h : Head) (o : Owner) (k : Clause) (g : Tail) (x : PagingStage) (t : Token) (q : State) → stage_step h o k g x t ≡ Some q → level_height (wrap_level h o k) ≤ need q
 stage-grows h o k g group_by by_word q e = grown _ (paged h o k g (group_next [])) q e (omega arith)
 stage-grows h o k g group_by _ q e = none_some q e
 stage-grows h o k g (group_next cs) (word c) q e = grown _ (paged h o k g (group_behind cs c)) q e (omega arith)

@@ -18,7 +18,7 @@ use Rattle.pql_spec.specs.declared.token.Token.{Token}
 use Rattle.pql_spec.specs.declared.token.Token.TheVariants.{Word as word, Literal as literal, OpenBracket as open_bracket, CloseBracket as close_bracket, OpenBrace as open_brace, CloseBrace as close_brace, OpenParen as open_paren, CloseParen as close_paren, Comma as comma, Bang as bang, Tilde as tilde, Comparison as comparison, Differs as differs, And as and_word, Or as or_word, In as in_word, Is as is_word, Not as not_word, Null as null_word, Group as group_word, Order as order_word, By as by_word, Asc as asc_word, Desc as desc_word, Limit as limit_word, Offset as offset_word}
 use Rattle.pql_spec.specs.Grammar.{Tail, among, among_rows, level_with, pattern, is_count, number_of, text_literal, number_literal, Test, compared, differing, matching, null_test, not_null_test, names_text, literals_text, Left, one, several, left_text, left_columns, Count, no_count, count, count_text, IsCount, Item, column, row_count, function, item_text, item_value, IsItem, items_text, item_values, AreItems, IsNext, IsFresh, Columns, no_columns, columns, columns_text, columns_value, AreColumns, has_columns, Group, no_group, group_text, MayGroup, Direction, unsaid, said, direction_word, Ordered, ordered, ordered_text, ordered_value, orders_text, order_values, OrderPart, no_order, order_text, Page, page_text, empty, with_group, with_order, with_limit, with_offset, add_group, add_order, add_limit, add_offset, page_value, IsPage, join_all, join_any, Operand, test, listed, selected, negated, Ands, no_and, Ors, no_or, or_then, Body, no_body, operand_text, ands_text, ors_text, body_text, operand_value, and_values, or_values, body_value, IsOperand, AreAnds, AreOrs, IsBody, Tree, text, value, IsTree}
 use Rattle.pql_spec.specs.Grammar as grammar
-use Rattle.pql_machine.specs.Machine.{Pending, Frame, parens, implicit, inner, Head, Owner, outermost, right_of, Stage, group_by, group_next, group_behind, order_by, order_next, order_behind, order_directed, limit_count, behind_limit, offset_count, behind_offset, Column, column_next, column_behind, in_function, in_argument, column_closed, Gone, goes, ends, opens, counts_rows, column_step, inner_goes, head_goes, Mode, operand, named, compare_to, differ_from, match_with, null_or_not, not_null, left_next, left_behind, in_expected, right, literal_next, literal_behind, inner_bracket, inner_columns, inner_brace, State, start, headed, head_columns, head_brace, body, within, done, paged, complete, nothing, negate, finish, region, level_done, from_end, from_offset, from_limit, from_order, is_there, may_group, level_ends, clause_ends, parens_end, operand_begins, with_text, with_count, mode_step, stage_step, body_step, region_ends, done_step, step, ended, read}
+use Rattle.pql_machine.specs.Machine.{Pending, Frame, parens, implicit, inner, Head, Owner, outermost, right_of, PagingStage, group_by, group_next, group_behind, order_by, order_next, order_behind, order_directed, limit_count, behind_limit, offset_count, behind_offset, Column, column_next, column_behind, in_function, in_argument, column_closed, Gone, goes, ends, opens, counts_rows, column_step, inner_goes, head_goes, Mode, operand, named, compare_to, differ_from, match_with, null_or_not, not_null, left_next, left_behind, in_expected, right, literal_next, literal_behind, inner_bracket, inner_columns, inner_brace, State, start, headed, head_columns, head_brace, body, within, done, paged, complete, nothing, negate, finish, region, level_done, from_end, from_offset, from_limit, from_order, is_there, may_group, level_ends, clause_ends, parens_end, operand_begins, with_text, with_count, mode_step, stage_step, body_step, region_ends, done_step, step, ended, read}
 use Rattle.std.proofs.lemmas.List.{append-nil}
 use Rattle.pql_machine.proofs.Trees.{has-columns}
 use Rattle.pql_spec.proofs.of_plain_laws.Options.{none_some, some_same, choose}
@@ -134,7 +134,7 @@ module _ (h : Head) (o : Owner) (k : Clause) (v : Level) where
   abbrev Orders : Tail → List Order → List Token → Type 0
   Orders g os r = (ps : List Ordered) × (p : Ordered) × (x : List Token) × (r ≡ orders_text ps (ordered_text p x)) × LimitRest (with_order g (os ++ (order_values ps ++ ordered_value p ∷ []))) x
 
-  abbrev InStage : Tail → Stage → List Token → Type 0
+  abbrev InStage : Tail → PagingStage → List Token → Type 0
   InStage g group_by r = Behind by_word (Names g []) r
   InStage g (group_next cs) r = Names g cs r
   InStage g (group_behind cs c) r = Names g cs (word c ∷ r)
@@ -335,7 +335,7 @@ module _ (v : Level) where
       subst (λ ps. LimitRest h o k v (with_order g ps) a.2) (append_assoc os (ordered_value x ∷ []) (order_values a.0 ++ ordered_value a.1 ∷ [])) a.4,
     )
 
-    stage-sound : (g : Tail) (x : Stage) (t : Token) (q : State) (r : List Token) → stage_step h o k g x t ≡ Some q → Rest q r v → InStage h o k v g x (t ∷ r)
+    stage-sound : (g : Tail) (x : PagingStage) (t : Token) (q : State) (r : List Token) → stage_step h o k g x t ≡ Some q → Rest q r v → InStage h o k v g x (t ∷ r)
     stage-sound g group_by by_word q r e a = (r, refl, arrive (paged h o k g (group_next [])) q r e a)
     stage-sound g group_by _ q r e a = none_some q e
     stage-sound g (group_next cs) (word c) q r e a = arrive (paged h o k g (group_behind cs c)) q r e a

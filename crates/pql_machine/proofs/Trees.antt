@@ -16,7 +16,7 @@ use Rattle.pql_spec.specs.Grammar.{Tail, among, among_rows, level_with, pattern,
 use Rattle.pql_spec.specs.Grammar as grammar
 use Rattle.pql_machine.proofs.Fresh.{name-fresh}
 use Rattle.pql_machine.specs.Machine as machine
-use Rattle.pql_machine.specs.Machine.{Pending, Frame, parens, implicit, inner, Head, Owner, outermost, right_of, Stage, group_next, group_behind, order_next, order_behind, order_directed, limit_count, behind_limit, offset_count, behind_offset, Column, column_next, column_behind, in_function, in_argument, column_closed, Gone, goes, ends, opens, counts_rows, column_step, inner_goes, head_goes, Mode, operand, left_next, left_behind, in_expected, right, literal_next, literal_behind, inner_columns, inner_brace, State, start, headed, head_columns, head_brace, body, within, done, paged, complete, nothing, negate, finish, region, level_done, from_end, from_offset, from_limit, from_order, is_there, may_group, level_ends, clause_ends, parens_end, region_ends, done_step, step, and_then, read}
+use Rattle.pql_machine.specs.Machine.{Pending, Frame, parens, implicit, inner, Head, Owner, outermost, right_of, PagingStage, group_next, group_behind, order_next, order_behind, order_directed, limit_count, behind_limit, offset_count, behind_offset, Column, column_next, column_behind, in_function, in_argument, column_closed, Gone, goes, ends, opens, counts_rows, column_step, inner_goes, head_goes, Mode, operand, left_next, left_behind, in_expected, right, literal_next, literal_behind, inner_columns, inner_brace, State, start, headed, head_columns, head_brace, body, within, done, paged, complete, nothing, negate, finish, region, level_done, from_end, from_offset, from_limit, from_order, is_there, may_group, level_ends, clause_ends, parens_end, region_ends, done_step, step, and_then, read}
 
 module _ (h : Head) (fs : List Frame) (p : Pending) (n : ℕ) where
   read-left : (cs ds : List Name) (d : Name) (r : List Token) → read (within h fs p n (left_next cs)) (names_text ds (word d ∷ close_bracket ∷ r)) ≡ read (within h fs p n (in_expected (cs ++ (ds ++ d ∷ [])))) r
@@ -144,7 +144,7 @@ module _ (h : Head) (o : Owner) (k : Clause) where
       ∙ read-offset (paged h o k (with_limit g (number_of d)) behind_limit) (with_limit g (number_of d)) l r j ((λ r. refl), (λ r. refl))
 
   -- where an order's item has been read
-  abbrev behind-ordered : List Order → Ordered → Stage
+  abbrev behind-ordered : List Order → Ordered → PagingStage
   behind-ordered os (ordered c unsaid) = order_behind os c
   behind-ordered os (ordered c (said b)) = order_directed os c b
 

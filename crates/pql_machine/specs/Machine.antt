@@ -42,18 +42,18 @@ pub data Owner : Type 0 where
   outermost : Owner
   right_of : List Frame → List Name → Name → List Selected → Pending → ℕ → Owner
 
-pub data Stage : Type 0 where
-  group_by : Stage
-  group_next : List Name → Stage
-  group_behind : List Name → Name → Stage
-  order_by : Stage
-  order_next : List Order → Stage
-  order_behind : List Order → Name → Stage
-  order_directed : List Order → Name → Bool → Stage
-  limit_count : Stage
-  behind_limit : Stage
-  offset_count : Stage
-  behind_offset : Stage
+pub data PagingStage : Type 0 where
+  group_by : PagingStage
+  group_next : List Name → PagingStage
+  group_behind : List Name → Name → PagingStage
+  order_by : PagingStage
+  order_next : List Order → PagingStage
+  order_behind : List Order → Name → PagingStage
+  order_directed : List Order → Name → Bool → PagingStage
+  limit_count : PagingStage
+  behind_limit : PagingStage
+  offset_count : PagingStage
+  behind_offset : PagingStage
 
 -- the state within the columns of a level
 pub data Column : Type 0 where
@@ -90,7 +90,7 @@ pub data State : Type 0 where
   body : Head → List Frame → State
   within : Head → List Frame → Pending → ℕ → Mode → State
   done : Head → List Frame → Pending → State
-  paged : Head → Owner → Clause → Tail → Stage → State
+  paged : Head → Owner → Clause → Tail → PagingStage → State
   complete : Level → State
 
 abbrev pub nothing : Pending
@@ -251,7 +251,7 @@ mode_step h fs p n (inner_columns ls e cs k) t = inner_goes h fs p n ls e (colum
 mode_step h fs p n (inner_brace ls e cs) open_brace = Some (body h (inner ls e cs p n ∷ fs))
 mode_step h fs p n (inner_brace ls e cs) _ = None
 
-abbrev pub stage_step : Head → Owner → Clause → Tail → Stage → Token → Option State
+abbrev pub stage_step : Head → Owner → Clause → Tail → PagingStage → Token → Option State
 stage_step h o k g group_by by_word = Some (paged h o k g (group_next []))
 stage_step h o k g group_by _ = None
 stage_step h o k g (group_next cs) (word c) = Some (paged h o k g (group_behind cs c))

@@ -5,7 +5,7 @@ use Rattle.query_spec.specs.declared.parts.Selected.{Selected}
 use Rattle.query_spec.specs.Parts.{field_named}
 use Rattle.query_spec.specs.Query.{Filter, Clause, no_clause, clause, is_null, subquery, height, clause_height, level_height}
 use Rattle.pql_spec.specs.Grammar.{Tail, among_rows, level_with, empty}
-use Rattle.pql_machine.specs.Machine.{Pending, Frame, parens, implicit, inner, Head, outermost, right_of, Mode, Stage, State, body, within, done, paged, region}
+use Rattle.pql_machine.specs.Machine.{Pending, Frame, parens, implicit, inner, Head, outermost, right_of, Mode, PagingStage, State, body, within, done, paged, region}
 use Rattle.pql_machine.specs.Depth.{joined, put_height, depth_of}
 use Rattle.pql_machine.specs.Least.{some_name, put, wrap, least, need}
 use Rattle.pql_machine.proofs.Heights.{put-height, wrap-height}
@@ -17,7 +17,7 @@ use Rattle.pql_parts.specs.declared.build.Pending.{Pending as Operands}
 use Rattle.pql_parts.specs.declared.state.Head.{Head as TheHead}
 use Rattle.pql_parts.specs.declared.state.Mode.{Mode as TheMode}
 use Rattle.pql_parts.specs.declared.state.Spot.{Spot}
-use Rattle.pql_parts.specs.declared.state.Stage.{Stage as TheStage}
+use Rattle.pql_parts.specs.declared.state.PagingStage.{PagingStage as TheStage}
 use Rattle.pql_parts.specs.declared.state.State.{State as TheState}
 use Rattle.pql_parts.specs.declared.state.State.TheVariants as state
 use Rattle.pql_parts.specs.declared.frames.Right.{Right}
@@ -42,7 +42,7 @@ within-need h fs p n m = put-need h fs p n (least m)
 pub done-need : (h : Head) (fs : List Frame) (p : Pending) → need (done h fs p) ≡ depth_of fs (height (region p))
 done-need h fs p = wrap-height h fs (region p)
 
-pub right-need : (h : Head) (fs : List Frame) (ls : List Name) (e : Name) (cs : List Selected) (p : Pending) (n : ℕ) (k : Clause) (g : Tail) (x : Stage) → need (paged h (right_of fs ls e cs p n) k g x) ≡ depth_of fs (put_height p n (suc (clause_height k)))
+pub right-need : (h : Head) (fs : List Frame) (ls : List Name) (e : Name) (cs : List Selected) (p : Pending) (n : ℕ) (k : Clause) (g : Tail) (x : PagingStage) → need (paged h (right_of fs ls e cs p n) k g x) ≡ depth_of fs (put_height p n (suc (clause_height k)))
 right-need h fs ls e cs p n k g x = put-need h fs p n (among_rows ls e (level_with e (Some cs) k empty))
 
 -- ---- as the code tells it
@@ -64,7 +64,7 @@ done_told h fs p k r e f =
     ∙ depth_capped fs (height (region p))
     ∙ ap capped (sym (done-need h fs p))
 
-pub right_told : (h : Head) (fs : List Frame) (ls : List Name) (e : Name) (cs : List Selected) (p : Pending) (n : ℕ) (k : Clause) (g : Tail) (x : Stage) (c d l r : ℕ) → c ≡ capped (clause_height k) → d ≡ deeper c → l ≡ capped (put_height p n d) → r ≡ capped (depth_of fs l) → r ≡ capped (need (paged h (right_of fs ls e cs p n) k g x))
+pub right_told : (h : Head) (fs : List Frame) (ls : List Name) (e : Name) (cs : List Selected) (p : Pending) (n : ℕ) (k : Clause) (g : Tail) (x : PagingStage) (c d l r : ℕ) → c ≡ capped (clause_height k) → d ≡ deeper c → l ≡ capped (put_height p n d) → r ≡ capped (depth_of fs l) → r ≡ capped (need (paged h (right_of fs ls e cs p n) k g x))
 right_told h fs ls e cs p n k g x c d l r i j a b =
     b
     ∙ ap (λ y. capped (depth_of fs y)) (a ∙ ap (λ y. capped (put_height p n y)) (j ∙ ap deeper i ∙ deeper_told) ∙ put_height_capped p n (suc (clause_height k)))
@@ -74,7 +74,7 @@ right_told h fs ls e cs p n k g x c d l r i j a b =
     deeper_told : deeper (capped (clause_height k)) ≡ capped (suc (clause_height k))
     deeper_told = omega arith
 
-pub paged_told : (fs : List Frame) (q : Paged) (s : Right) (x : Stage) (d l r : ℕ) → q.owner ≡ RightOf s → d ≡ deeper q.closed.height → l ≡ capped (put_height (pending_of s.pending) s.nots d) → r ≡ capped (depth_of fs l) → r ≡ capped (need (paged_of fs q x))
+pub paged_told : (fs : List Frame) (q : Paged) (s : Right) (x : PagingStage) (d l r : ℕ) → q.owner ≡ RightOf s → d ≡ deeper q.closed.height → l ≡ capped (put_height (pending_of s.pending) s.nots d) → r ≡ capped (depth_of fs l) → r ≡ capped (need (paged_of fs q x))
 paged_told fs q s x d l r e j a b =
     subst (λ o. r ≡ capped (need (paged (head_of q.head) (owner_of fs o) q.closed.clause (tail_of q.tail) x))) (sym e)
     (right_told (head_of q.head) fs s.left.items s.entity s.shown (pending_of s.pending) s.nots q.closed.clause (tail_of q.tail) x q.closed.height d l r q.closed.exact j a b)
@@ -88,7 +88,7 @@ within_is fs s p m l k r e i j a = subst (λ x. r ≡ capped (need (state_of fs 
 pub done_is : (fs : List Frame) (s : TheState) (h : TheHead) (p : Operands) (k r : ℕ) → s ≡ state.Done h p → k ≡ capped (height (region (pending_of p))) → r ≡ capped (depth_of fs k) → r ≡ capped (need (state_of fs s))
 done_is fs s h p k r e i j = subst (λ x. r ≡ capped (need (state_of fs x))) (sym e) (done_told (head_of h) fs (pending_of p) k r i j)
 
-pub paged_is : (fs : List Frame) (s : TheState) (p : Paged) (x : TheStage) (r : ℕ) → s ≡ state.Paged p x → ((y : Stage) → r ≡ capped (need (paged_of fs p y))) → r ≡ capped (need (state_of fs s))
+pub paged_is : (fs : List Frame) (s : TheState) (p : Paged) (x : TheStage) (r : ℕ) → s ≡ state.Paged p x → ((y : PagingStage) → r ≡ capped (need (paged_of fs p y))) → r ≡ capped (need (state_of fs s))
 paged_is fs s p x r e h = subst (λ t. r ≡ capped (need (state_of fs t))) (sym e) (h (stage_of x))
 
 -- ---- so many `!`

@@ -17,8 +17,8 @@ use Rattle.pql_parts.specs.declared.state.Owner.{Owner}
 use Rattle.pql_parts.specs.declared.state.Owner.TheVariants.{Outermost, Right as RightOf}
 use Rattle.pql_parts.specs.declared.state.Paged.{Paged}
 use Rattle.pql_parts.specs.declared.state.Spot.{Spot}
-use Rattle.pql_parts.specs.declared.state.Stage.{Stage}
-use Rattle.pql_parts.specs.declared.state.Stage.TheVariants as stage
+use Rattle.pql_parts.specs.declared.state.PagingStage.{PagingStage}
+use Rattle.pql_parts.specs.declared.state.PagingStage.TheVariants as stage
 use Rattle.pql_parts.specs.declared.state.Mode.{Mode}
 use Rattle.pql_parts.specs.declared.state.Mode.TheVariants as mode
 use Rattle.pql_parts.specs.declared.state.State.{State}
@@ -41,7 +41,7 @@ owner_of fs (RightOf r) = machine.right_of fs r.left.items r.entity r.shown (pen
 abbrev pub tail_of : Tail → grammar.Tail
 tail_of t = record { group = t.group; paging = t.paging }
 
-abbrev pub stage_of : Stage → machine.Stage
+abbrev pub stage_of : PagingStage → machine.PagingStage
 stage_of stage.GroupBy = machine.group_by
 stage_of (stage.GroupNext cs) = machine.group_next cs
 stage_of (stage.GroupBehind cs c) = machine.group_behind cs c
@@ -75,7 +75,7 @@ mode_of (mode.InnerBrace ls e cs) = machine.inner_brace ls.items e cs
 abbrev pub within_of : List machine.Frame → Spot → machine.Mode → machine.State
 within_of fs s m = machine.within (head_of s.head) fs (pending_of s.pending) s.nots m
 
-abbrev pub paged_of : List machine.Frame → Paged → machine.Stage → machine.State
+abbrev pub paged_of : List machine.Frame → Paged → machine.PagingStage → machine.State
 paged_of fs p x = machine.paged (head_of p.head) (owner_of fs p.owner) p.closed.clause (tail_of p.tail) x
 
 abbrev pub state_of : List machine.Frame → State → machine.State
@@ -104,5 +104,5 @@ TookColumn (Err Memory) o = Unit {0}
 abbrev pub spot_step : List machine.Frame → Spot → machine.Mode → Token → Option machine.State
 spot_step fs s m t = machine.mode_step (head_of s.head) fs (pending_of s.pending) s.nots m t
 
-abbrev pub paged_step : List machine.Frame → Paged → machine.Stage → Token → Option machine.State
+abbrev pub paged_step : List machine.Frame → Paged → machine.PagingStage → Token → Option machine.State
 paged_step fs p x t = machine.stage_step (head_of p.head) (owner_of fs p.owner) p.closed.clause (tail_of p.tail) x t

@@ -77,19 +77,19 @@ pub(crate) fn negate(alloc: Global, nots: usize, built: Built) -> Result<Built, 
     Ok(found)
 }
 
-/// Filters that will be joined, and the greatest of their heights.
+/// The arms of an `and` or an `or`, and the greatest of their heights.
 #[derive(Drop)]
-pub struct Group {
+pub struct Arms {
     pub filters: Filters,
     pub tallest: usize,
     pub ghost exact: { tallest ≡ spec.capped (depth.tall filters) },
 }
 
-impl Group {
-    pub fn new(alloc: Global) -> Group
+impl Arms {
+    pub fn new(alloc: Global) -> Arms
         ensures { result.filters ≡ [] }
     {
-        Group {
+        Arms {
             filters: Filters::new(alloc),
             tallest: 0,
         }
@@ -103,16 +103,16 @@ impl Group {
 
     /// Adds a filter.
     #[tactic(auto, using(crate::proofs::Heights::tallest_more))]
-    pub fn with(self, built: Built) -> Result<Group, AllocError>
+    pub fn with(self, built: Built) -> Result<Arms, AllocError>
         ensures { IfOk result (λ g. g.filters ≡ self.filters ++ filter_of built.filter ∷ []) }
     {
-        let Group {
+        let Arms {
             mut filters,
             tallest,
         } = self;
         let Built { filter, height } = built;
         filters.push(filter)?;
-        Ok(Group {
+        Ok(Arms {
             filters,
             tallest: tallest.max(height),
         })
@@ -135,7 +135,7 @@ impl Group {
         ensures { filter_of result.filter ≡ grammar.join_all self.filters }
     {
         let height = self.joined_height();
-        let Group {
+        let Arms {
             filters,
             tallest: _,
         } = self;
@@ -149,7 +149,7 @@ impl Group {
         ensures { filter_of result.filter ≡ grammar.join_any self.filters }
     {
         let height = self.joined_height();
-        let Group {
+        let Arms {
             filters,
             tallest: _,
         } = self;
@@ -187,8 +187,8 @@ fn join_any(mut list: Filters) -> Filter
 /// The filters of the earlier groups, and the operands of the current group.
 #[derive(Drop)]
 pub struct Pending {
-    pub any: Group,
-    pub all: Group,
+    pub any: Arms,
+    pub all: Arms,
 }
 
 impl Pending {
@@ -198,8 +198,8 @@ impl Pending {
         ensures { pending_of result ≡ machine.nothing }
     {
         Pending {
-            any: Group::new(alloc),
-            all: Group::new(alloc),
+            any: Arms::new(alloc),
+            all: Arms::new(alloc),
         }
     }
 
@@ -226,7 +226,7 @@ impl Pending {
         let Pending { any, all } = self;
         Ok(Pending {
             any: any.with(all.join_all())?,
-            all: Group::new(alloc),
+            all: Arms::new(alloc),
         })
     }
 

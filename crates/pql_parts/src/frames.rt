@@ -8,7 +8,7 @@ ghost use Rattle.pql_parts.specs.Heights as spec;
 ghost use Rattle.pql_parts.specs.Levels as level;
 ghost use Rattle.pql_parts.specs.Parts.{pending_of};
 
-use crate::build::{DEEP, Group, Pending};
+use crate::build::{Arms, DEEP, Pending};
 use ast_tree::{Name, Selection};
 use std::alloc::{AllocError, Global};
 use std::marker::Model;
@@ -77,10 +77,10 @@ impl Model for Frames {
     ghost invariant = { λ a. IsDepth (open_frames (reverse a.list.items)) a.depth × AreLevel (reverse a.list.items) };
 }
 
-fn over(group: &Group) -> usize
-    ensures { result ≡ level.over group.now.filters }
+fn over(arms: &Arms) -> usize
+    ensures { result ≡ level.over arms.now.filters }
 {
-    if group.is_empty() { 0 } else { 1 }
+    if arms.is_empty() { 0 } else { 1 }
 }
 
 // The levels above an operand of a region that is itself under `above` levels.

@@ -21,7 +21,7 @@ fn least_height(mode: &Mode) -> usize
 }
 
 fn paged_need(frames: &Frames, paged: &Paged) -> usize
-    ensures { (x : machine.Stage) → result ≡ spec.capped (least.need (paged_of frames.now paged.now x)) }
+    ensures { (x : machine.PagingStage) → result ≡ spec.capped (least.need (paged_of frames.now paged.now x)) }
 {
     match &paged.owner {
         Owner::Outermost => paged.closed.height,

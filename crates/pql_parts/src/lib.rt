@@ -18,7 +18,7 @@ mod shown;
 mod sides;
 mod state;
 
-pub use build::{Built, Closed, Group, Pending, deeper, let_built_go};
+pub use build::{Arms, Built, Closed, Pending, deeper, let_built_go};
 pub use column::{Column, Gone, column_step};
 pub use count::count_of;
 pub use fault::{Fault, let_token_go};
@@ -27,6 +27,6 @@ pub use least::need;
 pub use shown::Shown;
 pub use sides::{field_named, fields_of, more};
 pub use state::{
-    Finished, Head, Mode, Owner, Paged, Spot, Stage, State, Tail, let_head_go, let_paged_go,
+    Finished, Head, Mode, Owner, Paged, PagingStage, Spot, State, Tail, let_head_go, let_paged_go,
     let_spot_go, let_state_go,
 };

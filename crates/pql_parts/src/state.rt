@@ -40,7 +40,7 @@ pub struct Paged {
 }
 
 #[derive(Drop)]
-pub enum Stage {
+pub enum PagingStage {
     GroupBy,
     GroupNext(Columns),
     GroupBehind(Columns, Name),
@@ -102,7 +102,7 @@ pub enum State {
     Within(Spot, Mode),
     /// After an operand, the last of its group so far.
     Done(Head, Pending),
-    Paged(Paged, Stage),
+    Paged(Paged, PagingStage),
     Complete(Finished),
 }
 
@@ -113,7 +113,7 @@ pub fn let_paged_go(_paged: Paged) {}
 
 pub fn let_spot_go(_spot: Spot) {}
 
-fn let_stage_go(_stage: Stage) {}
+fn let_stage_go(_stage: PagingStage) {}
 
 fn let_mode_go(_mode: Mode) {}
 

@@ -11,8 +11,8 @@ ghost use Rattle.pql_parts.specs.States.{head_of, owner_of, tail_of, stage_of, p
 use crate::operand::finish_of;
 use ast_tree::{Columns, Filter, Level, Literal, Name, Order, Orders, Paging, Scalar, Selection};
 use pql_parts::{
-    Built, Closed, Fault, Finished, Head, Owner, Paged, Right, Spot, Stage, State, Tail, count_of,
-    deeper, fields_of, let_paged_go, let_token_go,
+    Built, Closed, Fault, Finished, Head, Owner, Paged, PagingStage, Right, Spot, State, Tail,
+    count_of, deeper, fields_of, let_paged_go, let_token_go,
 };
 use pql_spec::Token;
 use std::alloc::{AllocError, Global};
@@ -208,7 +208,7 @@ fn from_offset(alloc: Global, paged: Paged, token: Token) -> Result<State, Fault
         (tail_of paged.tail) token) }
 {
     match token {
-        Token::Offset => Ok(State::Paged(paged, Stage::OffsetCount)),
+        Token::Offset => Ok(State::Paged(paged, PagingStage::OffsetCount)),
         Token::CloseBrace => from_end(alloc, paged, Token::CloseBrace),
         other => {
             let_paged_go(paged);
@@ -223,8 +223,8 @@ fn from_limit(alloc: Global, paged: Paged, token: Token) -> Result<State, Fault>
         (tail_of paged.tail) token) }
 {
     match token {
-        Token::Limit => Ok(State::Paged(paged, Stage::LimitCount)),
-        Token::Offset => Ok(State::Paged(paged, Stage::OffsetCount)),
+        Token::Limit => Ok(State::Paged(paged, PagingStage::LimitCount)),
+        Token::Offset => Ok(State::Paged(paged, PagingStage::OffsetCount)),
         Token::CloseBrace => from_end(alloc, paged, Token::CloseBrace),
         other => {
             let_paged_go(paged);
@@ -240,9 +240,9 @@ pub(crate) fn from_order(alloc: Global, paged: Paged, token: Token) -> Result<St
         (tail_of paged.tail) token) }
 {
     match token {
-        Token::Order => Ok(State::Paged(paged, Stage::OrderBy)),
-        Token::Limit => Ok(State::Paged(paged, Stage::LimitCount)),
-        Token::Offset => Ok(State::Paged(paged, Stage::OffsetCount)),
+        Token::Order => Ok(State::Paged(paged, PagingStage::OrderBy)),
+        Token::Limit => Ok(State::Paged(paged, PagingStage::LimitCount)),
+        Token::Offset => Ok(State::Paged(paged, PagingStage::OffsetCount)),
         Token::CloseBrace => from_end(alloc, paged, Token::CloseBrace),
         other => {
             let_paged_go(paged);
@@ -256,7 +256,7 @@ fn group_by(alloc: Global, paged: Paged, token: Token) -> Result<State, Fault>
     ensures { (fs : List machine.Frame) → Took fs result (paged_step fs paged machine.group_by token) }
 {
     match token {
-        Token::By => Ok(State::Paged(paged, Stage::GroupNext(Columns::new(alloc)))),
+        Token::By => Ok(State::Paged(paged, PagingStage::GroupNext(Columns::new(alloc)))),
         other => {
             let_paged_go(paged);
             let_token_go(other);
@@ -269,7 +269,7 @@ fn group_next(paged: Paged, columns: Columns, token: Token) -> Result<State, Fau
     ensures { (fs : List machine.Frame) → Took fs result (paged_step fs paged (machine.group_next columns) token) }
 {
     match token {
-        Token::Word(name) => Ok(State::Paged(paged, Stage::GroupBehind(columns, name))),
+        Token::Word(name) => Ok(State::Paged(paged, PagingStage::GroupBehind(columns, name))),
         other => {
             let_paged_go(paged);
             let_token_go(other);
@@ -338,7 +338,7 @@ fn next_column(paged: Paged, columns: Columns, name: Name) -> Result<State, Faul
     ensures { (fs : List machine.Frame) → Took fs result (paged_step fs paged (machine.group_behind columns name) token.Comma) }
 {
     match more_columns(columns, name) {
-        Ok(columns) => Ok(State::Paged(paged, Stage::GroupNext(columns))),
+        Ok(columns) => Ok(State::Paged(paged, PagingStage::GroupNext(columns))),
         Err(_) => {
             let_paged_go(paged);
             Err(Fault::Memory)
@@ -372,7 +372,7 @@ fn order_by(alloc: Global, paged: Paged, token: Token) -> Result<State, Fault>
     ensures { (fs : List machine.Frame) → Took fs result (paged_step fs paged machine.order_by token) }
 {
     match token {
-        Token::By => Ok(State::Paged(paged, Stage::OrderNext(Orders::new(alloc)))),
+        Token::By => Ok(State::Paged(paged, PagingStage::OrderNext(Orders::new(alloc)))),
         other => {
             let_paged_go(paged);
             let_token_go(other);
@@ -385,7 +385,7 @@ fn order_next(paged: Paged, orders: Orders, token: Token) -> Result<State, Fault
     ensures { (fs : List machine.Frame) → Took fs result (paged_step fs paged (machine.order_next orders) token) }
 {
     match token {
-        Token::Word(name) => Ok(State::Paged(paged, Stage::OrderBehind(orders, name))),
+        Token::Word(name) => Ok(State::Paged(paged, PagingStage::OrderBehind(orders, name))),
         other => {
             let_paged_go(paged);
             let_token_go(other);
@@ -450,7 +450,7 @@ fn next_order(paged: Paged, orders: Orders, column: Name, descends: bool) -> Res
         (machine.order_next (orders ++ order column descends ∷ [])))) }
 {
     match more_orders(orders, column, descends) {
-        Ok(orders) => Ok(State::Paged(paged, Stage::OrderNext(orders))),
+        Ok(orders) => Ok(State::Paged(paged, PagingStage::OrderNext(orders))),
         Err(_) => {
             let_paged_go(paged);
             Err(Fault::Memory)
@@ -469,8 +469,8 @@ fn order_behind(
 {
     match token {
         Token::Comma => next_order(paged, orders, name, false),
-        Token::Asc => Ok(State::Paged(paged, Stage::OrderDirected(orders, name, false))),
-        Token::Desc => Ok(State::Paged(paged, Stage::OrderDirected(orders, name, true))),
+        Token::Asc => Ok(State::Paged(paged, PagingStage::OrderDirected(orders, name, false))),
+        Token::Desc => Ok(State::Paged(paged, PagingStage::OrderDirected(orders, name, true))),
         Token::Limit => ordered_by(alloc, paged, orders, name, false, Token::Limit),
         Token::Offset => ordered_by(alloc, paged, orders, name, false, Token::Offset),
         Token::CloseBrace => ordered_by(alloc, paged, orders, name, false, Token::CloseBrace),
@@ -532,7 +532,7 @@ fn limit_to(paged: Paged, count: u64) -> State
         closed,
         tail: with_limit(tail, count),
     };
-    State::Paged(paged, Stage::BehindLimit)
+    State::Paged(paged, PagingStage::BehindLimit)
 }
 
 fn limit_read(paged: Paged, literal: Literal) -> Result<State, Fault>
@@ -577,7 +577,7 @@ fn offset_by(paged: Paged, count: u64) -> State
         closed,
         tail: with_offset(tail, count),
     };
-    State::Paged(paged, Stage::BehindOffset)
+    State::Paged(paged, PagingStage::BehindOffset)
 }
 
 fn offset_read(paged: Paged, literal: Literal) -> Result<State, Fault>
@@ -609,24 +609,24 @@ fn offset_count(paged: Paged, token: Token) -> Result<State, Fault>
 pub(crate) fn stage_step(
     alloc: Global,
     paged: Paged,
-    stage: Stage,
+    stage: PagingStage,
     token: Token,
 ) -> Result<State, Fault>
     ensures { (fs : List machine.Frame) → Took fs result (paged_step fs paged (stage_of stage) token) }
 {
     match stage {
-        Stage::GroupBy => group_by(alloc, paged, token),
-        Stage::GroupNext(columns) => group_next(paged, columns, token),
-        Stage::GroupBehind(columns, name) => group_behind(alloc, paged, columns, name, token),
-        Stage::OrderBy => order_by(alloc, paged, token),
-        Stage::OrderNext(orders) => order_next(paged, orders, token),
-        Stage::OrderBehind(orders, name) => order_behind(alloc, paged, orders, name, token),
-        Stage::OrderDirected(orders, name, descends) => {
+        PagingStage::GroupBy => group_by(alloc, paged, token),
+        PagingStage::GroupNext(columns) => group_next(paged, columns, token),
+        PagingStage::GroupBehind(columns, name) => group_behind(alloc, paged, columns, name, token),
+        PagingStage::OrderBy => order_by(alloc, paged, token),
+        PagingStage::OrderNext(orders) => order_next(paged, orders, token),
+        PagingStage::OrderBehind(orders, name) => order_behind(alloc, paged, orders, name, token),
+        PagingStage::OrderDirected(orders, name, descends) => {
             order_directed(alloc, paged, orders, name, descends, token)
         }
-        Stage::LimitCount => limit_count(paged, token),
-        Stage::BehindLimit => from_offset(alloc, paged, token),
-        Stage::OffsetCount => offset_count(paged, token),
-        Stage::BehindOffset => from_end(alloc, paged, token),
+        PagingStage::LimitCount => limit_count(paged, token),
+        PagingStage::BehindLimit => from_offset(alloc, paged, token),
+        PagingStage::OffsetCount => offset_count(paged, token),
+        PagingStage::BehindOffset => from_end(alloc, paged, token),
     }
 }

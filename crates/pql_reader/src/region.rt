@@ -11,8 +11,9 @@ use crate::operand::{finish, operand_begins};
 use crate::page::{empty_tail, from_order};
 use ast_tree::{Filter, Name};
 use pql_parts::{
-    Built, Closed, Fault, Frame, Frames, Head, Mode, Owner, Paged, Pending, Spot, Stage, State,
-    deeper, let_built_go, let_head_go, let_paged_go, let_right_go, let_spot_go, let_token_go,
+    Built, Closed, Fault, Frame, Frames, Head, Mode, Owner, Paged, PagingStage, Pending, Spot,
+    State, deeper, let_built_go, let_head_go, let_paged_go, let_right_go, let_spot_go,
+    let_token_go,
 };
 use pql_spec::Token;
 use std::alloc::{AllocError, Global};
@@ -47,7 +48,7 @@ fn level_ends(
     match token {
         Token::Group => {
             if groups {
-                Ok(State::Paged(paged, Stage::GroupBy))
+                Ok(State::Paged(paged, PagingStage::GroupBy))
             } else {
                 let_paged_go(paged);
                 Err(Fault::Bad)
