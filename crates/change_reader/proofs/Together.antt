@@ -11,6 +11,7 @@ use Rattle.wire_catalog.specs.wire_spec.Table.{Checked, each_from, is_edge, has_
 use Rattle.wire_catalog.specs.wire_fields.Checks.{checked}
 use Rattle.wire_report.proofs.KeptLaws.{Keeps, kept_ok}
 use Rattle.record_fields.specs.history_spec.Lawful.{AreDistinctEdges, AreDistinctResources}
+use Rattle.record_values.proofs.Rising.{all_map}
 use Rattle.change_reader.specs.Together.{are_new, is_taken}
 
 -- ---- none stands twice

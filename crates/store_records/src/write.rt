@@ -2,10 +2,10 @@
 ghost use Rattle.std.specs.Prelude.{◌≡◌, ◌++◌, ◌∷◌, ◌<◌, ◌^◌, [], length, IfOk, OnOk};
 ghost use Rattle.std.specs.List.{AllByRecursion};
 ghost use Rattle.wire_catalog.specs.fleet_rows.Change.{change_kind, kind_number};
-ghost use Rattle.record_fields.specs.history_spec.Lawful.{IsExpirationChange, IsChange};
+ghost use Rattle.record_fields.specs.history_spec.Lawful.{IsEdge, IsResource, IsFactsChange, IsCatalogChange, IsReportChange, IsDeactivateChange};
 ghost use Rattle.record_fields.specs.history_spec.Lawful.{IsExpirationChange, IsChange};
 ghost use Rattle.record_fields.specs.record_spec.Parts.{bytes_text, bool_text, optional, long_text, moment_text, list_text, kinds_number};
-ghost use Rattle.record_fields.specs.record_spec.Changes.{expiration_text, change_text};
+ghost use Rattle.record_fields.specs.record_spec.Changes.{facts_text, edge_text, resource_text, catalog_text, report_bytes, deactivate_text};
 ghost use Rattle.record_fields.specs.record_spec.Changes.{expiration_text, change_text};
 ghost use Rattle.record_fields.specs.record_spec.Store.{days_text, store_text, IsStoreRecord};
 ghost use Rattle.store_records.specs.Written.{catalog_head, catalog_marks, report_head, report_times, report_run};
