@@ -30,10 +30,11 @@ use Rattle.core_drain.proofs.Links.{core_up}
 use Rattle.core_drain.proofs.Fails.{rose_behind}
 use Rattle.core_drain.proofs.Records.{none_more}
 use Rattle.core_drain.proofs.Settles.{SettleSays}
-use Rattle.core_drain.proofs.Waits.{released_waits, claimed_waits}
+use Rattle.core_drain.proofs.Waits.{released_waits}
 use Rattle.core_drain.specs.Answers.{after_settle}
 use Rattle.core_drain.specs.Ends.{SomethingWaits, IsLeft, to_settle, LacksDone, EndsHere}
 use Rattle.command_core.specs.log_spec.Limits.{most_log}
+use Rattle.command_core.proofs.of_core_settles.SettledParts.{claimed_some}
 
 pub false_else : (b : Bool) → (b ≡ true → ⊥) → b ≡ false
 false_else true h = absurd (h refl)
@@ -74,7 +75,7 @@ module _ {D K : Type 0} (w : Sight D K) where
     some,
     λ start stood none.
         let now : history_of new start ≡ history_of old start = ap (λ (es : History). es ++ start) events in
-        claimed_waits r old.pending is (stood.holds.says.pending ∙ (ap pending_of (sym now) ∙ none)),
+        claimed_some r old.pending is (stood.holds.says.pending ∙ (ap pending_of (sym now) ∙ none)),
   )
 
   spent_still : (job : Job) (v : Verdict) (old new : CoreState D K) → new.queue ≡ old.queue → new.store ≡ old.store → IsSpent w.store_size job v old → IsSpent w.store_size job v new

@@ -25,8 +25,3 @@ released_stands r false s e = absurd (let own : (r == r) ≡ true = grind arith 
 -- and what is released
 pub released_waits : (ttls : Ttls) (r : ℕ) (history : History) → IsLegal ttls (Release r ∷ history) → pending_of (Release r ∷ history) ≢ []
 released_waits ttls r history legal = queued_waits ttls r (Release r ∷ history) legal (released_stands r (r == r) (standing r history) refl)
-
--- what is claimed is there
-pub claimed_waits : (r : ℕ) (es : List Entry) → is_claimed r es ≡ true → es ≢ []
-claimed_waits r [] is none = absurd cc
-claimed_waits r (e ∷ es) is none = absurd cc

@@ -51,7 +51,7 @@ Calm _ = ⊥
 -- ---- what is still pending
 
 -- what is claimed is among the entries
-claimed_some : (r : ℕ) (es : List Entry) → is_claimed r es ≡ true → es ≢ []
+pub claimed_some : (r : ℕ) (es : List Entry) → is_claimed r es ≡ true → es ≢ []
 claimed_some r [] is none = absurd cc
 claimed_some r (e ∷ es) is none = absurd cc
 

@@ -1,6 +1,7 @@
 -- The first value that no form allows is told: how the parts of a list are put together.
 use Rattle.std.proofs.Common.{◌≡◌, ◌∙◌, ◌⊎◌, inl, inr, ℕ, zero, suc, ◌+◌, List, [], ◌∷◌, ◌++◌, Option, Some, None, Ok, Err, arith, refl, sym, ap, subst, append_assoc}
 use Rattle.std.proofs.lemmas.List.{append-nil}
+use Rattle.json_machine.proofs.of_plain_laws.Options.{some_is}
 use Rattle.json_machine.specs.text_spec.Json as json
 use Rattle.json_machine.specs.text_spec.Json.{Json, Items, no_items, item}
 use Rattle.query_spec.specs.Ast.{Read, ◌>>=◌}
@@ -32,9 +33,6 @@ no_none x e = cc
 no_some : {A : Type 0} (x : A) → None ≡ Some x → ⊥
 no_some x e = cc
 
-same_of : {A : Type 0} (x y : A) → Some x ≡ Some y → x ≡ y
-same_of x y e = cc
-
 -- ---- a value that is refused, and one without elements
 
 pub refused : (p : Place) (k : Kind) (v : Json) → elements k v ≡ None → Sits (IsIn p) (Some p) (Bad p k v)
@@ -50,7 +48,7 @@ allowed p k v e = mapped (IsIn p) (IsIn p) (Bad p k v) (none_sits (IsIn p)) (λ 
   where
     none : (s : Place) → IsRefused k v s → ⊥
     none [] h = no_none [] (sym e ∙ h)
-    none (i ∷ s) h = no_some h.1 (let same : h.0 ≡ [] = same_of h.0 [] (sym h.3 ∙ e) in ap (kind_at i) (sym same) ∙ h.4)
+    none (i ∷ s) h = no_some h.1 (let same : h.0 ≡ [] = some_is h.0 [] (sym h.3 ∙ e) in ap (kind_at i) (sym same) ∙ h.4)
 
 -- ---- the elements of a list
 
@@ -69,8 +67,8 @@ among : (p : Place) (i m : ℕ) (ks : List Kind) (vs : Items) (q : Place) (j : K
 among p i m [] vs q j w s a b e h = absurd (no_some j a)
 among p i m (k ∷ ks) no_items q j w s a b e h = absurd (no_some w b)
 among p i zero (k ∷ ks) (item v vs) q j w s a b e h =
-    let kind : j ≡ k = sym (same_of k j a) in
-    let value : w ≡ v = sym (same_of v w b) in
+    let kind : j ≡ k = sym (some_is k j a) in
+    let value : w ≡ v = sym (some_is v w b) in
     let same : i + 0 ≡ i = omega arith in
     inl (s, subst (λ n. q ≡ p ++ n ∷ s) same e ∙ sym (append_assoc p (i ∷ []) s), subst (λ x. IsRefused x v s) kind (subst (λ x. IsRefused j x s) value h))
 among p i (suc m) (k ∷ ks) (item v vs) q j w s a b e h =
@@ -90,7 +88,7 @@ listed p k vs ks e h = mapped (IsFrom p 0) (IsIn p) (Bad p k (json.array vs)) h 
     from : (q s : Place) → q ≡ p ++ s → IsRefused k (json.array vs) s → BadFrom p 0 ks vs q
     from q [] same b = absurd (no_none ks (sym e ∙ b))
     from q (m ∷ s) same b =
-        let kinds : b.0 ≡ ks = same_of b.0 ks (sym b.3 ∙ e) in
+        let kinds : b.0 ≡ ks = some_is b.0 ks (sym b.3 ∙ e) in
         let number : m ≡ 0 + m = omega arith in
         among p 0 m ks vs q b.1 b.2 s (subst (λ x. kind_at m x ≡ Some b.1) kinds b.4) b.5 (subst (λ n. q ≡ p ++ n ∷ s) number same) b.6
 
@@ -136,7 +134,7 @@ headed p v ks vs h = record {
   where
     none : (s : Place) → IsRefused anything v s → ⊥
     none [] b = no_none [] b
-    none (i ∷ s) b = no_some b.1 (let same : b.0 ≡ [] = same_of b.0 [] (sym b.3) in ap (kind_at i) (sym same) ∙ b.4)
+    none (i ∷ s) b = no_some b.1 (let same : b.0 ≡ [] = some_is b.0 [] (sym b.3) in ap (kind_at i) (sym same) ∙ b.4)
 
 -- the last element
 pub last_of : (p : Place) (i : ℕ) (k : Kind) (v : Json) {o : Option Place} → Sits (IsIn (p ++ i ∷ [])) o (Bad (p ++ i ∷ []) k v) → Sits (IsFrom p i) o (BadFrom p i (k ∷ []) (item v no_items))

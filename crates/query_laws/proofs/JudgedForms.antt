@@ -4,6 +4,7 @@ use Rattle.std.specs.Prelude.{◌&&◌, ◌||◌, not, nat_lt, is_some, codes}
 use Rattle.std.specs.List.{list_any}
 use Rattle.std.specs.Str.{bytes_eq}
 use Rattle.std.specs.Str.Parse.{digits_value}
+use Rattle.json_machine.proofs.of_plain_laws.Booleans.{or_right}
 use Rattle.json_machine.specs.text_spec.Json as json
 use Rattle.json_machine.specs.text_spec.Json.{Json, Items, no_items, item}
 use Rattle.query_spec.specs.declared.parts.Field.{Field}
@@ -370,17 +371,13 @@ any_more f (e ∷ es) v = ap (λ b. f e || b) (any_more f es v) ∙ or_assoc (f 
 part_more : (w u : PartWord) (es : List Json) (v : Json) → word_of v ≡ u → is_part_twice w (es ++ v ∷ []) ≡ (is_part_twice w es || same_part w u)
 part_more w u es v e = any_more (λ v. same_part w (word_of v)) es v ∙ ap (λ x. is_part_twice w es || same_part w x) e
 
-right : (b c : Bool) → c ≡ true → (b || c) ≡ true
-right true c e = refl
-right false c e = e
-
 left : (b c : Bool) → c ≡ false → (b || c) ≡ b
 left true c e = refl
 left false c e = e
 
 with_one : (es : List Json) (os : List Order) (o : Option ℕ) (n : ℕ) (v : Json) → word_of v ≡ of_part.Limit → Has es os o None → Has (es ++ v ∷ []) os o (Some n)
 with_one es os o n v e h = record {
-  limits = part_more of_part.Limit of_part.Limit es v e ∙ right (is_part_twice of_part.Limit es) true refl;
+  limits = part_more of_part.Limit of_part.Limit es v e ∙ or_right (is_part_twice of_part.Limit es) true refl;
   offsets = part_more of_part.Offset of_part.Limit es v e ∙ left (is_part_twice of_part.Offset es) false refl ∙ h.offsets;
   orders = part_more of_part.OrderBy of_part.Limit es v e ∙ left (is_part_twice of_part.OrderBy es) false refl ∙ h.orders;
 }
@@ -388,7 +385,7 @@ with_one es os o n v e h = record {
 with_other : (es : List Json) (os : List Order) (n : ℕ) (l : Option ℕ) (v : Json) → word_of v ≡ of_part.Offset → Has es os None l → Has (es ++ v ∷ []) os (Some n) l
 with_other es os n l v e h = record {
   limits = part_more of_part.Limit of_part.Offset es v e ∙ left (is_part_twice of_part.Limit es) false refl ∙ h.limits;
-  offsets = part_more of_part.Offset of_part.Offset es v e ∙ right (is_part_twice of_part.Offset es) true refl;
+  offsets = part_more of_part.Offset of_part.Offset es v e ∙ or_right (is_part_twice of_part.Offset es) true refl;
   orders = part_more of_part.OrderBy of_part.Offset es v e ∙ left (is_part_twice of_part.OrderBy es) false refl ∙ h.orders;
 }
 
@@ -396,7 +393,7 @@ with_list : (es : List Json) (q : Order) (qs : List Order) (o l : Option ℕ) (v
 with_list es q qs o l v e h = record {
   limits = part_more of_part.Limit of_part.OrderBy es v e ∙ left (is_part_twice of_part.Limit es) false refl ∙ h.limits;
   offsets = part_more of_part.Offset of_part.OrderBy es v e ∙ left (is_part_twice of_part.Offset es) false refl ∙ h.offsets;
-  orders = part_more of_part.OrderBy of_part.OrderBy es v e ∙ right (is_part_twice of_part.OrderBy es) true refl;
+  orders = part_more of_part.OrderBy of_part.OrderBy es v e ∙ or_right (is_part_twice of_part.OrderBy es) true refl;
 }
 
 no_part : (p : Place) (es : List Json) (v : Json) → part_elements v ≡ None → Sits (IsIn p) (Some p) (Bad p (kind.part es) v)
