@@ -43,7 +43,8 @@ fn change(alloc: Global, kind: Kind, payload: &[u8]) -> Result<Change, Wrong>
     }
 }
 
-fn apply(
+/// Applies a command that isn't refused.
+pub(crate) fn apply(
     alloc: Global,
     tables: &mut Tables,
     receipt: u64,

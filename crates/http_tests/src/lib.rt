@@ -45,6 +45,8 @@ mod routes;
 #[cfg(test)]
 mod served;
 #[cfg(test)]
+mod tried;
+#[cfg(test)]
 mod waiting;
 #[cfg(test)]
 mod wrong;

@@ -1,7 +1,7 @@
 //! Tables and what they are asked as lines of text, and the loop that reads the lines.
 ghost use Rattle.command_decode.specs.history_spec.Lawful.{IsChange};
 
-use ast_reader::ast_tree::Paging;
+use ast_reader::ast_tree::{Paging, Query};
 use ast_reader::{read_ast, read_filter};
 use command_decode::decode;
 use command_decode::fleet_rows::{Change, Command, Entity, Kind, Kinds, Ttls};
@@ -11,8 +11,11 @@ use fleet_tables::Tables;
 use paging_text::{page, write_rows};
 use pattern_memory::{MemoryPatterns, Note};
 use pattern_regex::RegexPatterns;
-use query_answer::{AnswerFault, answer_ast, answer_filter, answer_query, answer_text};
-use query_plain::{Picked, select_plain};
+use pql_reader::read_pql;
+use query_answer::{
+    AnswerFault, QueryRefusal, answer_ast, answer_filter, answer_query, answer_text,
+};
+use query_plain::{Picked, QueryFault, select_plain};
 use std::alloc::{AllocError, Global};
 use std::process::Abort;
 use std::str;
@@ -138,14 +141,34 @@ fn picked(alloc: Global, tables: &Tables, text: &str) -> Option<Picked> {
     }
 }
 
-// The text of the rows that reading all rows gives, if the text is a query of the AST that is answered.
-fn plain_text(alloc: Global, tables: &Tables, text: &[u8]) -> Result<Option<Bytes>, AllocError> {
-    let Ok(query) = read_ast(alloc, text) else {
-        return Ok(None);
-    };
-    match select_plain(alloc, tables, &query, &mut RegexPatterns::new(alloc)) {
-        Ok(picked) => Ok(Some(write_rows(alloc, &picked.rows)?)),
-        Err(_) => Ok(None),
+// The query that a text spells in either language.
+fn query_in(alloc: Global, text: &[u8]) -> Option<Query> {
+    match read_ast(alloc, text) {
+        Ok(query) => Some(query),
+        Err(_) => read_pql(alloc, text).ok(),
+    }
+}
+
+// What a query is answered where all rows are read: the text of its rows, or that of the refusal.
+fn plain_text(alloc: Global, tables: &Tables, query: &Query) -> Result<Bytes, AllocError> {
+    match select_plain(alloc, tables, query, &mut RegexPatterns::new(alloc)) {
+        Ok(picked) => write_rows(alloc, &picked.rows),
+        Err(QueryFault::BadPattern(path)) => QueryRefusal::BadPattern(path).text(alloc),
+        Err(QueryFault::SumTooLarge(path)) => QueryRefusal::SumTooLarge(path).text(alloc),
+        Err(QueryFault::Memory) => Bytes::from_slice(alloc, b"no memory"),
+    }
+}
+
+// Whether this was told where all rows are read. A text that spells no query is told that alone.
+fn is_plain(
+    alloc: Global,
+    tables: &Tables,
+    query: Option<Query>,
+    told: &[u8],
+) -> Result<bool, AllocError> {
+    match query {
+        Some(query) => Ok(plain_text(alloc, tables, &query)?.as_slice() == told),
+        None => Ok(true),
     }
 }
 
@@ -228,12 +251,9 @@ impl Fleet {
         }
     }
 
-    // Whether reading all rows gives the same rows, if the text is a query of the AST that is answered.
-    fn is_told_plainly(&self, text: &[u8]) -> Result<bool, AllocError> {
-        match plain_text(self.alloc, &self.tables, text)? {
-            Some(plain) => Ok(plain.as_slice() == self.told.as_slice()),
-            None => Ok(true),
-        }
+    // Whether the query is told the same where all rows are read.
+    fn is_told_plainly(&self, query: Option<Query>) -> Result<bool, AllocError> {
+        is_plain(self.alloc, &self.tables, query, self.told.as_slice())
     }
 
     /// Asks a whole query in either language.
@@ -241,14 +261,19 @@ impl Fleet {
         let mut patterns = RegexPatterns::new(self.alloc);
         let answer = answer_text(self.alloc, &self.tables, text, &mut patterns);
         self.told = text_of(self.alloc, answer)?;
-        self.is_told_plainly(text)
+        self.is_told_plainly(query_in(self.alloc, text))
     }
 
     fn ask_ast(&mut self, text: &[u8]) -> Result<bool, AllocError> {
         let mut patterns = RegexPatterns::new(self.alloc);
         let answer = answer_ast(self.alloc, &self.tables, text, &mut patterns);
         self.told = text_of(self.alloc, answer)?;
-        self.is_told_plainly(text)
+        self.is_told_plainly(read_ast(self.alloc, text).ok())
+    }
+
+    fn ask_route(&mut self, entity: Entity, text: &[u8]) -> Result<bool, AllocError> {
+        self.told = route_answer(self.alloc, &self.tables, entity, text)?;
+        self.is_told_plainly(read_filter(self.alloc, entity, text).ok())
     }
 
     // Asks the rows of an entity, or applies a command.
@@ -257,10 +282,7 @@ impl Fleet {
             return self.apply(kind, version, text);
         }
         match entity_of(word) {
-            Some(entity) => {
-                self.told = route_answer(self.alloc, &self.tables, entity, text.as_bytes())?;
-                Ok(true)
-            }
+            Some(entity) => self.ask_route(entity, text.as_bytes()),
             None => Ok(false),
         }
     }
@@ -294,8 +316,8 @@ impl Fleet {
 ///
 /// `fleet` begins with tables of no node. `facts`, `catalog`, `report` and `deactivate` apply a command by its payload, and `expire`
 /// is a sweep of expiry at a stamp. `ask` is a whole query in either language, `ast` one in the AST, and the name of an entity
-/// asks for its rows in the AST. Whatever `ask` and `ast` are told in the AST, reading all rows tells too. `told` is what the last question was told: the rows, or the refusal. `course` asks, and is told
-/// what a reader of patterns was asked. `page` asks a query by the paging of another one. `repeat` asks the parts between bars, each
+/// asks for its rows in the AST. These three fail where reading all rows tells something else. `told` is what the last question was
+/// told: the rows, or the refusal. `course` asks, and is told what a reader of patterns was asked. `page` asks a query by the paging of another one. `repeat` asks the parts between bars, each
 /// second one so many times; `tells` repeats what is told so.
 pub(crate) fn play(rt: &impl Abort, alloc: Global, lines: &str) -> Result<(), AllocError> {
     let mut fleet = Fleet::new(alloc);

@@ -105,17 +105,37 @@ fn reading_few_rows_tells_what_reading_all_rows_tells(rt: HostRuntime) -> Result
     Ok(())
 }
 
+// A hundred texts with commas between them. A number stands between the head and the tail of each.
+fn hundred(alloc: Global, head: &str, tail: &str) -> Result<String, AllocError> {
+    let mut text = String::new(alloc);
+    for number in 100..200_u32 {
+        let comma = if number == 100 { "" } else { "," };
+        text.push_str(format!(in alloc; "{comma}{head}{number}{tail}")?.as_str())?;
+    }
+    Ok(text)
+}
+
 // A node with a hundred facts, each with the same value.
 fn add_node(alloc: Global, fleet: &mut Fleet, certname: &str) -> Result<bool, AllocError> {
-    let mut values = String::new(alloc);
-    for fact in 0..100_u32 {
-        let comma = if fact == 0 { "" } else { "," };
-        values.push_str(format!(in alloc; "{comma}\"fact{fact}\":\"v\"")?.as_str())?;
-    }
+    let values = hundred(alloc, "\"fact", "\":\"v\"")?;
     let payload = format!(in alloc;
         "{{\"certname\":\"{certname}\",\"environment\":\"production\",\"values\":{{{values}}},\"producer_timestamp\":\"2024-05-01T10:00:00Z\"}}"
     )?;
     fleet.step("facts", payload.as_str())
+}
+
+const OF_ONE_NODE: &str = r#"["from","facts",["and",["~","value","v"],["=","certname","a"]]]"#;
+
+// The rows of the node, and how often its query tries a text.
+fn are_told(alloc: Global, fleet: &mut Fleet) -> Result<bool, AllocError> {
+    let rows = hundred(
+        alloc,
+        r#"{"certname":"a","environment":"production","name":"fact"#,
+        r#"","value":"v"}"#,
+    )?;
+    let told = format!(in alloc; "[{rows}]")?;
+    let so = fleet.ask(OF_ONE_NODE.as_bytes())? && fleet.has_told(told.as_str());
+    Ok(so && fleet.step("course", OF_ONE_NODE)? && fleet.step("tells", "100 read v;|tried v v;")?)
 }
 
 fn tried_on_one_node(alloc: Global) -> Result<bool, AllocError> {
@@ -125,12 +145,7 @@ fn tried_on_one_node(alloc: Global) -> Result<bool, AllocError> {
         let certname = format!(in alloc; "node{node}")?;
         all &= add_node(alloc, &mut fleet, certname.as_str())?;
     }
-    all &= fleet.step(
-        "course",
-        "[\"from\",\"facts\",[\"and\",[\"~\",\"value\",\"v\"],[\"=\",\"certname\",\"a\"]]]",
-    )?;
-    all &= fleet.step("tells", "100 read v;|tried v v;")?;
-    Ok(all)
+    Ok(all && are_told(alloc, &mut fleet)?)
 }
 
 #[test]
