@@ -1,16 +1,18 @@
 """Requests a second of one link over the loopback, each sent when the one before is answered: queries that find one row, of fleets of
-several sizes, and posts of 10 kB with a checksum. Beside the program stands a plain loop of reads and writes in C (loop.c), which answers
-as many bytes, and for posts makes as many synced writes. The same client asks both.
+several sizes, queries that find one row of many nodes, and posts of 10 kB with a checksum. Beside the program stands a plain loop of reads
+and writes in C (loop.c), which answers as many bytes, and for posts makes as many synced writes. The same client asks both.
 
 Usage: links.py PROGRAM FOLDER [COUNT]
 PROGRAM is the built program, crates/puppetdb_server/out/puppetdb_server. FOLDER is where its files lie, and the plain loop's: /dev/shm for
-what is the program's own, a folder of a disk for posts beside its syncs. COUNT is how many queries a fleet is asked, 20,000 if none is
-given; where all facts are looked at, so many divided by the nodes; and a tenth of it are posts. Beside requests a second by the clock
-stand the microseconds of the server's processor for each, of the user and the system together, and of the user alone, which a link in
-memory would take too: where other programs run, only these say something. The servers take turns, RUNS times each, and the best of each
-is told. Needs `cc`.
+what is the program's own, a folder of a disk for posts beside its syncs. COUNT is how many queries of one row a fleet is asked, 20,000 if none
+is given; queries of many rows are asked so often that they print as many rows; and a tenth of COUNT are posts. Beside requests a second
+by the clock stand the microseconds of the server's processor for each, of the user and the system together, and of the user alone, which a
+link in memory would take too: where other programs run, only these say something. Beside queries of many rows stands what is wanted: 2
+microseconds for each row and 1 for each node of the fleet. The servers take turns, RUNS times each, and the best of each is told. Needs
+`cc`.
 """
 import hashlib
+import json
 import os
 import socket
 import subprocess
@@ -23,9 +25,26 @@ import runs
 
 RUNS = 3
 
-NODES = (1, 10, 100)
+NODES = (1, 100, 5_000)
+
+# each node has the first of these classes, and each tenth node the second
+COMMON, RARE = "Ntp", "Apache"
+
+# beside the classes
+RESOURCES = 38
 
 HEADS = "Host: 127.0.0.1:8080\r\nAccept: application/json\r\nUser-Agent: bench\r\n"
+
+# queries that find rows of many nodes
+PAIR = '["and",["=","type","Class"],["=","title","%s"]]'
+IN_PAIR = '["in","certname",["extract","certname",["select_resources",%s]]]'
+MANY = [
+    ("a fact of all nodes", "facts", '["=","name","fact0003"]'),
+    ("a class of all nodes", "resources", PAIR % COMMON),
+    ("a class of each tenth node", "resources", PAIR % RARE),
+    ("nodes with the class of all nodes", "nodes", IN_PAIR % (PAIR % COMMON)),
+    ("nodes with the class of each tenth node", "nodes", IN_PAIR % (PAIR % RARE)),
+]
 
 TICKS = os.sysconf("SC_CLK_TCK")
 
@@ -96,19 +115,43 @@ def first_answer(program, folder, request):
     return text
 
 
+def catalog(number):
+    """The catalog of a node."""
+    titles = [("Class", COMMON)] + [("Class", RARE)] * (number % 10 == 0) + [("File", f"/etc/{each}") for each in range(RESOURCES)]
+    common = {"exported": False, "file": None, "line": None, "tags": [], "parameters": {"ensure": "present"}}
+    body = {
+        "certname": f"n{number:06}",
+        "version": "1",
+        "environment": "production",
+        "transaction_uuid": None,
+        "catalog_uuid": None,
+        "code_id": None,
+        "job_id": None,
+        "producer_timestamp": "2024-05-01T10:00:00Z",
+        "producer": "m",
+        "resources": [{"type": kind, "title": title} | common for kind, title in titles],
+        "edges": [],
+    }
+    return json.dumps(body, separators=(",", ":")).encode()
+
+
 def laid(program, folder, count):
-    """Lays the files anew, of so many nodes with some 100 facts each."""
+    """Lays the files anew, of so many nodes with some 100 facts and 40 resources each."""
     for name in ("queue.a", "queue.b", "store.a", "store.b"):
         if os.path.exists(os.path.join(folder, name)):
             os.remove(os.path.join(folder, name))
     runs.call(program, folder, ["init"])
     source = os.path.join(folder, "spool")
     runs.spool(source, count, 6_000)
+    with open(source, "ab") as file:
+        for number in range(count):
+            text = catalog(number)
+            file.write(b"replace_catalog 9 %d\n%b\n" % (len(text), text))
     runs.call(program, folder, ["run", "1", runs.NOW], source)
 
 
-def compared(what, loop, program, folder, requests, count, synced):
-    """Tells what the program and the plain loop take, in turns."""
+def least(loop, program, folder, requests, count, synced):
+    """The first answer, and the least seconds that the program and the plain loop take, in turns."""
     text = first_answer(program, folder, requests[0])
     with open(os.path.join(folder, "answer"), "wb") as file:
         file.write(text)
@@ -119,9 +162,23 @@ def compared(what, loop, program, folder, requests, count, synced):
         port = free_port()
         words = [loop, "answer", str(port), str(len(requests[0])), "answer", *["plain.queue"] * synced]
         took[1].append(served(loop, words, folder, port, requests, count, len(text)))
-    ours, plain = [[min(column) for column in zip(*rows)] for rows in took]
+    return text, *[[min(column) for column in zip(*rows)] for rows in took]
+
+
+def compared(what, loop, program, folder, requests, count, synced):
+    """Tells what requests take."""
+    _, ours, plain = least(loop, program, folder, requests, count, synced)
     cells = [f"{count / clock:.0f}, {busy / count * 1e6:.1f}, {user / count * 1e6:.1f}" for clock, busy, user in (ours, plain)]
     print(f"{what} | {cells[0]} | {cells[1]} | {plain[0] / ours[0]:.2f}", flush=True)
+
+
+def searched(what, loop, program, folder, request, nodes, count):
+    """Tells what a query of many rows takes beside what is wanted. About as many rows are printed as COUNT says."""
+    rows = len(json.loads(first_answer(program, folder, request).partition(b"\r\n\r\n")[2]))
+    count = max(20, count // rows)
+    _, ours, plain = least(loop, program, folder, [request], count, False)
+    wanted = 2 * rows + nodes
+    print(f"{what} | {rows} | {ours[1] / count * 1e6:.1f} | {plain[1] / count * 1e6:.1f} | {wanted}", flush=True)
 
 
 def main():
@@ -137,14 +194,19 @@ def main():
             one = query("nodes", f'["=","certname","{last}"]')
             compared(f"a row of nodes, {nodes} nodes", loop, program, folder, [one], count, False)
             one = query("facts", f'["and",["=","certname","{last}"],["=","name","fact0003"]]')
-            compared(f"a row of facts, {nodes} nodes", loop, program, folder, [one], count // nodes, False)
+            compared(f"a row of facts, {nodes} nodes", loop, program, folder, [one], count, False)
         laid(program, folder, 1)
         posts = [post(number) for number in range(count // 10 + 1)]
         compared("posts of 10 kB", loop, program, folder, posts, count // 10, True)
         rows = runs.call(program, folder, ["run", "1", runs.NOW])[3]
-        least = count // 10 + 1
-        if int(rows.split()[3]) < least:
+        fewest = count // 10 + 1
+        if int(rows.split()[3]) < fewest:
             sys.exit(f"not all that was posted was applied: {rows}")
+        print("requests, of the last fleet | rows | us of the processor: served | plain loop | wanted")
+        nodes = NODES[-1]
+        laid(program, folder, nodes)
+        for what, entity, text in MANY:
+            searched(what, loop, program, folder, query(entity, text), nodes, count)
 
 
 if __name__ == "__main__":
