@@ -17,8 +17,11 @@
 //! | `try A B ..` | does so, if the last command that ran ended with code 0 or 13 |
 //! | `gate A B ..` | runs the command as `do`, but at a gate; the line of its status isn't printed |
 //! | `ask TEXT` | asks a query |
+//! | `note A B ..` | runs the command as `do`, with a reader of patterns that notes each text that it tries |
+//! | `tried A` | says how many texts that were |
 //! | `usage A B ..` | runs words that are no command |
 //! | `printed TEXT`, `bare TEXT` | says what the last command printed, with a line end and without |
+//! | `again` | says that the next command prints what the last one printed |
 //! | `port A`, `answer TEXT` | says which port was listened to, and the answer of each link that was given back |
 //! | `end A TEXT` | compares all of that, the code A and the line of the errors; a line that was cut has ` ..` behind it |
 //! | `told TEXT` | the same for code 0 and this line printed |
@@ -40,6 +43,7 @@ use crate::words::{query_of, words_of};
 use fleet_app::{Ended, Exit, StartFault, run_busy, run_program};
 use fleet_ports::Disks;
 use json_tree::Text;
+use pattern_memory::MemoryPatterns;
 use pattern_regex::RegexPatterns;
 use port_memory::FuseDisk;
 use std::alloc::{AllocError, Global};
@@ -116,6 +120,41 @@ impl Play {
         kept
     }
 
+    // Runs the words, with a reader of patterns that notes each text that it tries.
+    fn run_noted<R: Threads + Wait + Sync>(
+        &mut self,
+        rt: &R,
+        alloc: Global,
+        words: &[Text],
+    ) -> Result<(), AllocError> {
+        let start = self.start(alloc, words);
+        let mut spool = self.given.take_spool(alloc);
+        let mut out = self.given.sink(alloc, " out=");
+        let mut errors = self.given.sink(alloc, " errors=");
+        let mut front = self.given.take_front(alloc);
+        let mut patterns = MemoryPatterns::new(alloc);
+        let Exit { code, disks } = run_program(
+            rt,
+            alloc,
+            start,
+            &mut spool,
+            &mut out,
+            &mut errors,
+            &mut front,
+            &mut patterns,
+        );
+        self.stored.keep_disks(disks);
+        self.told.keep_tries(&patterns);
+        let code = code_of(code);
+        let kept = self.told.keep(code, out.held(), errors.held(), &front);
+        drop(patterns);
+        drop(front);
+        drop(errors);
+        drop(out);
+        drop(spool);
+        kept
+    }
+
     // Runs the words of a command that may wait, at a gate.
     fn run_at_gate<R: Threads + Wait + Sync>(
         &mut self,
@@ -161,11 +200,13 @@ impl Play {
     ) -> Result<Option<bool>, AllocError> {
         let words = match word {
             "ask" => query_of(alloc, text, self.given.number(" wide=", 0))?,
-            "do" | "try" | "usage" | "gate" => words_of(alloc, text)?,
+            "do" | "try" | "usage" | "gate" | "note" => words_of(alloc, text)?,
             _ => return Ok(None),
         };
         let ran = if word == "gate" {
             self.run_at_gate(rt, alloc, words.as_slice())
+        } else if word == "note" {
+            self.run_noted(rt, alloc, words.as_slice())
         } else if word != "try" || self.told.goes_on() {
             self.run(rt, alloc, words.as_slice())
         } else {

@@ -102,3 +102,34 @@ end 10 query refused: bad pattern 2.2
 fn a_query_prints_its_rows_or_why_it_has_none(rt: HostRuntime) -> Result<(), AllocError> {
     play(&rt, rt.alloc(), TWO_NODES, ASKED)
 }
+
+// Fifty nodes with a hundred facts each, whose values are one text.
+const FIFTY: &str = r#"files a pattern is tried on the facts of one node
+middle 99 ,"fact@":"v"
+nodes 50 raw {"certname":"node@","environment":"production","values":{"k":"v"$},"producer_timestamp":"2024-05-01T10:00:00Z","producer":"m"}
+do run 1 2024-05-02T00:00:00Z
+printed received 50
+printed applied 50
+printed superseded 0
+printed discarded 0
+end 0
+ask ["from","facts",["extract",[["function","count"]],["=","certname","node7"]]]
+told [{"count":100}]
+ask ["from","facts",["=","certname","node7"]]
+again
+note query ["from","facts",["and",["~","value","v"],["=","certname","node7"]]]
+end 0
+tried 100
+link GET /pdb/query/v4/facts?query=["=","certname","node7"] HTTP/1.1\r\n\r\n
+do serve 8123 2024-05-02T00:00:00Z --links 1
+again
+link GET /pdb/query/v4/facts?query=["and",["~","value","v"],["=","certname","node7"]] HTTP/1.1\r\n\r\n
+note serve 8123 2024-05-02T00:00:00Z --links 1
+end 0
+tried 100
+"#;
+
+#[test]
+fn a_pattern_is_tried_on_the_facts_of_one_node(rt: HostRuntime) -> Result<(), AllocError> {
+    play(&rt, rt.alloc(), "", FIFTY)
+}

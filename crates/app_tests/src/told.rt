@@ -1,12 +1,24 @@
 //! What the last command came to, and what the lines of a script say of it.
-use crate::texts::{add_bytes, add_line};
+use crate::texts::{add_bytes, add_line, number_of};
 use front_memory::MemoryFront;
 use itoa::Buffer;
+use pattern_memory::{MemoryPatterns, Note};
 use std::alloc::{AllocError, Global};
 use std::str;
 
 /// Stands before the port in what was printed. No command prints it.
 const BEFORE_PORT: &[u8] = b"\0port ";
+
+// How many of the notes are texts that were tried.
+fn tries(notes: &[Note]) -> u64 {
+    let mut count = 0_u64;
+    for note in notes {
+        if matches!(note, Note::Tried(_, _)) {
+            count = count.saturating_add(1);
+        }
+    }
+    count
+}
 
 #[derive(Drop)]
 pub(crate) struct Told {
@@ -16,6 +28,8 @@ pub(crate) struct Told {
     pub(crate) printed: Vec<u8>,
     // How many commands went through the gate before all had come.
     early: u64,
+    // How many texts were tried on patterns.
+    tries: u64,
     // What the lines say was printed.
     wanted: Vec<u8>,
     /// How the commands ended that a line `log` follows.
@@ -28,6 +42,7 @@ impl Told {
             end: String::new(alloc),
             printed: Vec::new(alloc),
             early: 0,
+            tries: 0,
             wanted: Vec::new(alloc),
             log: String::new(alloc),
         }
@@ -76,6 +91,15 @@ impl Told {
     /// Keeps how many commands went through the gate before all had come.
     pub(crate) fn keep_early(&mut self, early: u64) {
         self.early = early;
+    }
+
+    /// Keeps how many texts were tried on patterns. Without memory for a note that is more than any line says.
+    pub(crate) fn keep_tries(&mut self, patterns: &MemoryPatterns) {
+        self.tries = if patterns.lost() == 0 {
+            tries(patterns.notes())
+        } else {
+            u64::MAX
+        };
     }
 
     /// Whether the last command ended with code 0 or 13.
@@ -150,6 +174,8 @@ impl Told {
             "log" => self.note(has_failed)?,
             "together" => return Ok(Some(self.early == 0)),
             "apart" => return Ok(Some(self.early > 0)),
+            "tried" => return Ok(Some(self.tries == number_of(text))),
+            "again" => self.wanted.extend_from_slice(self.printed.as_slice())?,
             _ => return Ok(None),
         }
         Ok(Some(true))
