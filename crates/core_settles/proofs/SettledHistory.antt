@@ -37,7 +37,7 @@ use Rattle.core_settles.specs.declared.answers.Settled.{Settled}
 use Rattle.core_settles.specs.declared.answers.Verdict.{Verdict}
 use Rattle.core_settles.specs.declared.answers.Verdict.TheVariants as verdict
 use Rattle.core_settles.specs.Ends.{HasFreed, dead_of, HasDiscarded, HasApplied, HasFailed}
-use Rattle.core_settles.specs.Settles.{IsVerdictOf, SettleGives, IsSettling}
+use Rattle.core_settles.specs.Settles.{IsVerdictOf, SettleGives, IsSettling, SettleImage}
 use Rattle.core_settles.proofs.CommandRecords as command
 use Rattle.core_settles.proofs.CountedLists.{below_or, few_attempts}
 use Rattle.core_settles.proofs.Outcomes.{Put, Keeps, kept_record, Failure, StoreFailed, Outcome, down, unclaimed, no_memory, freed, refused, refuse_unput, refuse_open, applied, undone, store_down, failed, given_up, fail_unput, fail_open}
@@ -210,24 +210,34 @@ module _ {D K : Type 0} (p : Ports D K) (job : Job) (old new : CoreState D K) (s
           (subst (BothTell ttls (q_old ++ queue.Done job.receipt ∷ []) (s_old ++ rec ∷ [])) (sym (on (event ∷ []) h.events)) (command.both_applied p old start sound stands up job is submitted change decodes))
           (λ told. put.queued_one refl told ∙ ap (λ (o : Option (List QueueRecord)). with_one o (queue.Done job.receipt)) ((logs p old start sound stands up).queue_is told)) (stored_told keeps))
 
-      undone_stands : (answer : Kept) → Keeps p job old new kept.Ok rec new.store → Put p job old new answer (queue.Done job.receipt) → HasApplied job change true old new → CoreStands p new start
-      undone_stands answer keeps put h =
-          down_stands p new start (rw (h.undone_is) refl) (applied_holds true h keeps.cause.later) [] (none refl)
-          (λ q s q_image s_image.
-          inl (subst (λ (ts : Ttls). StandsAt ts q s now) (sym (ap (λ x. x.ttls) h.tables)) (subst (StandsAt ttls q s) (sym (on (event ∷ []) h.events))
+      -- without the Done the command is applied in each image
+      undone_images : (answer : Kept) → Keeps p job old new kept.Ok rec new.store → Put p job old new answer (queue.Done job.receipt) → HasApplied job change true old new
+          → (q : Option (List QueueRecord)) (s : Option (List StoreRecord)) → QueueImages p.may_leave new.queue q → p.images new.store s → StandsAt new.tables.ttls q s now
+      undone_images answer keeps put h q s q_image s_image =
+          subst (λ (ts : Ttls). StandsAt ts q s now) (sym (ap (λ x. x.ttls) h.tables)) (subst (StandsAt ttls q s) (sym (on (event ∷ []) h.events))
           (⊎_elim
           (λ q_is. at ttls q s q_old (s_old ++ rec ∷ []) (event ∷ was) q_is (stored_known keeps s s_image) (command.stand_undone p old start sound stands up job is submitted change decodes))
           (λ q_is. at ttls q s (q_old ++ queue.Done job.receipt ∷ []) (s_old ++ rec ∷ []) (event ∷ was) q_is (stored_known keeps s s_image) (command.stand_applied p old start sound stands up job is submitted change decodes))
-          (q_each p old start sound stands up new.queue (queue.Done job.receipt) put.each q q_image)))))
+          (q_each p old start sound stands up new.queue (queue.Done job.receipt) put.each q q_image)))
+
+      undone_stands : (answer : Kept) → Keeps p job old new kept.Ok rec new.store → Put p job old new answer (queue.Done job.receipt) → HasApplied job change true old new → CoreStands p new start
+      undone_stands answer keeps put h =
+          down_stands p new start (rw (h.undone_is) refl) (applied_holds true h keeps.cause.later) [] (none refl)
+          (λ q s q_image s_image. inl (undone_images answer keeps put h q s q_image s_image))
+
+      -- a store that went down may have the change
+      store_down_images : Keeps p job old new kept.Down rec new.store → new.queue ≡ old.queue → MemoryStays old new
+          → (q : Option (List QueueRecord)) (s : Option (List StoreRecord)) → QueueImages p.may_leave new.queue q → p.images new.store s
+          → StandsAt new.tables.ttls q s now ⊎ StandsAt new.tables.ttls q s (event ∷ now)
+      store_down_images keeps queue m q s q_image s_image =
+          subst (λ (ts : Ttls). StandsAt ts q s now ⊎ StandsAt ts q s (event ∷ now)) (sym (ap (λ x. x.ttls) m.others.tables))
+          (subst (λ (h : History). StandsAt ttls q s h ⊎ StandsAt ttls q s (event ∷ h)) (sym (ap (λ (h : History). h ++ start) m.events))
+          (store_images p old start sound stands up new rec (event ∷ []) (command.stand_undone p old start sound stands up job is submitted change decodes) keeps.each queue q s q_image s_image))
 
       store_down_stands : Keeps p job old new kept.Down rec new.store → new.queue ≡ old.queue → MemoryStays old new → CoreStands p new start
       store_down_stands keeps queue m =
-          let at_end = ap (λ (h : History). h ++ start) m.events in
           down_stands p new start (store_went (keeps.down.1 refl)) (memory_later m keeps.cause.later) (event ∷ []) (one event tt refl)
-          (λ q s q_image s_image.
-          subst (λ (ts : Ttls). StandsAt ts q s now ⊎ StandsAt ts q s (event ∷ now)) (sym (ap (λ x. x.ttls) m.others.tables))
-          (subst (λ (h : History). StandsAt ttls q s h ⊎ StandsAt ttls q s (event ∷ h)) (sym at_end)
-          (store_images p old start sound stands up new rec (event ∷ []) (command.stand_undone p old start sound stands up job is submitted change decodes) keeps.each queue q s q_image s_image)))
+          (λ q s q_image s_image. store_down_images keeps queue m q s q_image s_image)
         where
           store_went : p.store_down new.store ≡ true → is_down p new ≡ true
           store_went t = rw t (either new.undone (queue_down new.queue))
@@ -300,6 +310,37 @@ module _ {D K : Type 0} (p : Ports D K) (job : Job) (old new : CoreState D K) (s
   settle_stands came v (given_up change ve e up is f put n_is h) decodes = given_up_stands up is change f put n_is h
   settle_stands came v (fail_unput change ve e up is f put h) decodes = unput_freed up is kept.Failed (Failure p job old new) tt put h f.keeps.cause.later (failed_told up is change f) (failed_goes up is change f)
   settle_stands came v (fail_open change ve e up is f put m) decodes = fail_open_stands up is change f put m
+
+  -- ---- the images at the end
+
+  abbrev Image : Option (List QueueRecord) → Option (List StoreRecord) → Settled → Bool → Type 0
+  Image q s came undone_now = SettleImage came undone_now job new.tables.ttls now q s
+
+  module _ (q : Option (List QueueRecord)) (s : Option (List StoreRecord)) (q_image : QueueImages p.may_leave new.queue q) (s_image : p.images new.store s) where
+    -- the queue's fault left the command pending
+    pending_image : is_down p old ≡ false → new.undone ≡ old.undone → Image q s settled.QueueFault new.undone
+    pending_image up same = subst (Image q s settled.QueueFault) (sym (done_still p job old new up same)) tt
+
+    pub settle_images : (came : Settled) (v : Verdict) → Outcome p job old new came v → IsVerdictOf v job.command → Image q s came new.undone
+    settle_images came v (down e is same) decodes = subst (λ (x : Settled). Image q s x new.undone) (sym e) tt
+    settle_images came v (unclaimed e up is same) decodes = subst (λ (x : Settled). Image q s x new.undone) (sym e) tt
+    settle_images came v (no_memory e up is m) decodes = subst (λ (x : Settled). Image q s x new.undone) (sym e) tt
+    settle_images came v (freed e up is f h) decodes = subst (λ (x : Settled). Image q s x new.undone) (sym e) tt
+    settle_images came v (refused refusal ve e up is put store h) decodes = subst (λ (x : Settled). Image q s x new.undone) (sym e) tt
+    settle_images came v (refuse_unput refusal ve e up is put store h) decodes = subst (λ (x : Settled). Image q s x new.undone) (sym e) (pending_image up h.others.undone)
+    settle_images came v (refuse_open refusal ve e up is put store m) decodes = subst (λ (x : Settled). Image q s x new.undone) (sym e) (pending_image up m.others.undone)
+    settle_images came v (applied change ve e up is keeps put h) decodes = subst (λ (x : Settled). Image q s x new.undone) (sym e) tt
+    settle_images came v (undone change ve e up is keeps answer faulty put h) decodes =
+        subst (λ (x : Settled). Image q s x new.undone) (sym e)
+        (subst (Image q s settled.QueueFault) (sym h.undone_is)
+        (undone_images up is change (subst (λ (w : Verdict). IsVerdictOf w job.command) ve decodes) answer keeps put h q s q_image s_image))
+    settle_images came v (store_down change ve e up is keeps queue m) decodes =
+        subst (λ (x : Settled). Image q s x new.undone) (sym e)
+        (store_down_images up is change (subst (λ (w : Verdict). IsVerdictOf w job.command) ve decodes) keeps queue m q s q_image s_image)
+    settle_images came v (failed change n ve e up is f put n_is few h) decodes = subst (λ (x : Settled). Image q s x new.undone) (sym e) tt
+    settle_images came v (given_up change ve e up is f put n_is h) decodes = subst (λ (x : Settled). Image q s x new.undone) (sym e) tt
+    settle_images came v (fail_unput change ve e up is f put h) decodes = subst (λ (x : Settled). Image q s x new.undone) (sym e) (pending_image up h.others.undone)
+    settle_images came v (fail_open change ve e up is f put m) decodes = subst (λ (x : Settled). Image q s x new.undone) (sym e) (pending_image up m.others.undone)
 
   -- ---- at the moments within
 

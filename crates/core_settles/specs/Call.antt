@@ -10,9 +10,9 @@ use Rattle.core_claims.specs.core_state.Moments.{CoreIsWithin, StandsAmid}
 use Rattle.core_claims.specs.core_state.Puts.{QueueCounts, QueueRoseTwice, StoreStays}
 use Rattle.core_claims.specs.core_state.Seen.{down_of, events_of, CoreIsSound, IsSubmitted}
 use Rattle.core_claims.specs.core_state.Spelling.{HasSpelling}
-use Rattle.core_claims.specs.core_state.StandsFor.{history_of, CoreStandsFor}
+use Rattle.core_claims.specs.core_state.StandsFor.{EachImage, history_of, CoreStandsFor}
 use Rattle.core_settles.specs.Settles.{SettleGives, IsSettling, settled_events, queue_record, QueueWrites, SettleWrites, is_applied}
-use Rattle.core_settles.specs.Settles.{SettleLeaves, LeavesPending, StoreRose, IsSpent, IsMemory}
+use Rattle.core_settles.specs.Settles.{SettleLeaves, SettleImage, LeavesPending, StoreRose, IsSpent, IsMemory}
 use Rattle.core_claims.specs.fleet_keeper.declared.keeper.Keeper as keeper
 use Rattle.core_claims.specs.fleet_ports.declared.disk.Disk as disk
 use Rattle.core_claims.specs.core_state.declared.state.CoreState.{CoreState}
@@ -44,6 +44,10 @@ pub record CoreSettles {D K : Type 0} (d : disk.Ghosts D) (k : keeper.Ghosts K) 
       → CoreIsWithin d k old new
       (StandsAmid old.tables.ttls (IsSettling job v (k.fault_count old.store) (k.fault_count new.store))
       (history_of old start) (history_of new start))
+  -- Which images there are at the end, if the core went down by the store or for want of a Done.
+  pub each_image : (start : History)
+      → CoreStandsFor d k old start
+      → EachImage d.may_leave k.images new (SettleImage result new.undone job new.tables.ttls (history_of new start))
   pub sound : CoreIsSound d k new
   pub spelling : HasSpelling old → HasSpelling new
   pub kept_submitted : (r : ℕ) (c : Command) → IsSubmitted r c old → IsSubmitted r c new

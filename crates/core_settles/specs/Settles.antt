@@ -4,6 +4,7 @@ use Rattle.core_claims.specs.fleet_keeper.declared.keeper.Keeper as keeper
 use Rattle.core_claims.specs.fleet_ports.Counts.{Rose, RoseBy}
 use Rattle.core_claims.specs.fleet_rows.declared.command.Command.{Command}
 use Rattle.core_claims.specs.fleet_rows.declared.refusal.Cause.TheVariants as cause
+use Rattle.core_claims.specs.fleet_rows.declared.settings.Ttls.{Ttls}
 use Rattle.core_claims.specs.record_spec.declared.queue.QueueRecord.{QueueRecord}
 use Rattle.core_claims.specs.record_spec.declared.queue.QueueRecord.TheVariants as queue
 use Rattle.core_claims.specs.record_spec.declared.store.StoreRecord.{StoreRecord}
@@ -20,6 +21,7 @@ use Rattle.core_claims.specs.queue_log.Queued.{queued, queue_down, queue_size}
 use Rattle.core_claims.specs.declared.job.Job.{Job}
 use Rattle.core_claims.specs.core_state.declared.state.CoreState.{CoreState}
 use Rattle.core_claims.specs.core_state.Changes.{CoreStays}
+use Rattle.core_claims.specs.core_state.StandsFor.{StandsAt}
 use Rattle.core_settles.specs.declared.answers.Settled.{Settled}
 use Rattle.core_settles.specs.declared.answers.Settled.TheVariants as settled
 use Rattle.core_settles.specs.declared.answers.Verdict.{Verdict}
@@ -111,6 +113,13 @@ LeavesPending settled.QueueFault undone = undone ≡ false
 LeavesPending settled.Spent undone = Unit {0}
 LeavesPending (settled.Memory given w) undone = Unit {0}
 LeavesPending _ undone = ⊥
+
+-- What an image of both logs stands for, if the core went down by the store or for want of a Done. At StoreDown it may include the
+-- change of the command. If the Done is missing, the command is applied in each image.
+abbrev pub SettleImage : Settled → Bool → Job → Ttls → History → Option (List QueueRecord) → Option (List StoreRecord) → Type 0
+SettleImage settled.StoreDown undone job ttls now q s = StandsAt ttls q s now ⊎ StandsAt ttls q s (Apply job.receipt (Some job.command.received) ∷ now)
+SettleImage settled.QueueFault true job ttls now q s = StandsAt ttls q s now
+SettleImage _ undone job ttls now q s = Unit {0}
 
 -- the record that a settle writes to the queue
 abbrev pub queue_record : Settled → Job → Verdict → ℕ → ℕ → Option QueueRecord

@@ -19,6 +19,8 @@
 //!   (`waits`).
 //! - A failure of the store comes only if its count rose, StoreDown if it rose by two (`store_cause`). The count never falls
 //!   (`store_later`). StoreDown leaves the queue's log, and the command claimed.
+//! - At StoreDown an image may also have the change of the command. If its Done is missing, the command is applied in each
+//!   image (`each_image`).
 //!
 //! Costs: two appends with syncs, and one copy of the payload. A change prepared for another job is spelt again. No clause says
 //! that the prepared spelling is used.

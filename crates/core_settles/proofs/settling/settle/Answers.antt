@@ -1,6 +1,6 @@
 use Rattle.core_claims.proofs.of_core_state.Ports.{Ports}
 use Rattle.core_settles.proofs.Outcomes.{Outcome, outcome}
-use Rattle.core_settles.proofs.SettledHistory.{settle_gives, settle_stands, settle_moments}
+use Rattle.core_settles.proofs.SettledHistory.{settle_gives, settle_stands, settle_images, settle_moments}
 use Rattle.core_settles.proofs.SettledLogs.{settle_writes, settle_stores, settle_unspent}
 use Rattle.core_settles.proofs.SettledParts.{settle_adds, settle_keeper, settle_later, settle_sound, settle_submitted, settle_opening, settle_down, settle_unclaimed, settle_left, settle_waits, settle_refusals, settle_cause, settle_twice, settle_rose, settle_store_down, settle_up}
 use Rattle.core_settles.proofs.SettledSpellings.{settle_spelling}
@@ -44,6 +44,7 @@ returns g c =
         gives = λ start stands. settle_gives p c.args.job c.args.core.now c.settle_step.new.core start c.requires.sound stands c.requires.submitted c.settle_step.result c.args.verdict o;
         stands = λ start stands. settle_stands p c.args.job c.args.core.now c.settle_step.new.core start c.requires.sound stands c.requires.submitted c.settle_step.result c.args.verdict o c.requires.decodes;
         any_moment = λ start stands up. settle_moments p c.args.job c.args.core.now c.settle_step.new.core start c.requires.sound stands c.requires.submitted c.settle_step.result c.args.verdict o c.requires.decodes up;
+        each_image = λ start stands q s q_image s_image. settle_images p c.args.job c.args.core.now c.settle_step.new.core start c.requires.sound stands c.requires.submitted q s q_image s_image c.settle_step.result c.args.verdict o c.requires.decodes;
         sound = settle_sound p c.args.job c.args.core.now c.settle_step.new.core c.requires.sound c.settle_step.result c.args.verdict o;
         spelling = λ spelling. settle_spelling p c.args.job c.args.core.now c.settle_step.new.core c.requires.fit spelling c.settle_step.result c.args.verdict c.requires.decodes o;
         kept_submitted = λ r b. settle_submitted p c.args.job c.args.core.now c.settle_step.new.core c.settle_step.result c.args.verdict o r b;
