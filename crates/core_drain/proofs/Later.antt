@@ -12,7 +12,7 @@ use Rattle.core_course.proofs.Traces.{queue_trace-append}
 use Rattle.command_core.proofs.of_core_state.of_fleet_keeper.Within.{rose_from}
 use Rattle.core_drain.specs.declared.ends.WorkEnd.{WorkEnd}
 use Rattle.core_drain.specs.declared.ends.WorkEnd.TheVariants.{Done, QueueFault, StoreDown, Spent, Down, Memory}
-use Rattle.core_drain.specs.Ends.{SomethingWaits, IsLeft, HasNoRoom, to_settle, to_supersede, QueueRose, LacksDone, RoseBehindFails, EndsSo, EndsHere}
+use Rattle.core_drain.specs.Ends.{SomethingWaits, IsLeft, HasNoRoom, to_settle, to_supersede, QueueRose, LacksDone, ChangeIsOpen, RoseBehindFails, EndsSo, EndsHere}
 
 module _ {D K : Type 0} (w : Sight D K) where
   module _ (more : History) (a b c : CoreState D K) (p : Passed w more a b) where
@@ -53,6 +53,23 @@ module _ {D K : Type 0} (w : Sight D K) where
             ∙ ap (λ (xs : List QueueRecord). Some xs)
             (append_assoc records (queue_trace more) (queue_trace h.earlier) ∙ ap (λ (xs : List QueueRecord). records ++ xs) (sym (queue_trace-append h.earlier more)));
         twice = λ went. twice_later (h.twice went);
+        images = λ start stood. h.images start (p.stands start stood);
+      }
+
+      pub open_later : ChangeIsOpen w b c → ChangeIsOpen w a c
+      open_later h = record {
+        waits = waits_later h.waits;
+        receipt = h.receipt;
+        moment = h.moment;
+        stands = λ start stood. h.stands start (p.stands start stood);
+        more = h.more ++ more;
+        events = h.events ∙ (ap (λ (es : History). h.more ++ es) p.events ∙ sym (append_assoc h.more more a.events.list));
+        queue_up = h.queue_up;
+        queue = λ told records there.
+            h.queue told (records ++ queue_trace more) ((p.logs up).queue told records there)
+            ∙ ap (λ (xs : List QueueRecord). Some xs)
+            (append_assoc records (queue_trace more) (queue_trace h.more) ∙ ap (λ (xs : List QueueRecord). records ++ xs) (sym (queue_trace-append h.more more)));
+        images = λ start stood. h.images start (p.stands start stood);
       }
 
       pub fault_later : LacksDone w b c ⊎ IsLeft w b c → LacksDone w a c ⊎ IsLeft w a c
@@ -63,7 +80,7 @@ module _ {D K : Type 0} (w : Sight D K) where
       here_later None h = h
       here_later (Some Done) h = h
       here_later (Some QueueFault) h = (queue_rose_later h.0, h.1, fault_later h.2)
-      here_later (Some StoreDown) h = (behind_later 2 h.0, h.1, waits_later h.2)
+      here_later (Some StoreDown) h = (behind_later 2 h.0, h.1, open_later h.2)
       here_later (Some Spent) h = (h.0, room_later h.1, waits_later h.2)
       here_later (Some Down) h = h
       here_later (Some Memory) h = h

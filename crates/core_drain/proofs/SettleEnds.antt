@@ -19,12 +19,13 @@ use Rattle.command_core.specs.core_claims.declared.job.Job.{Job}
 use Rattle.command_core.specs.core_state.declared.state.CoreState.{CoreState}
 use Rattle.command_core.specs.core_state.Puts.{QueueRoseTwice}
 use Rattle.command_core.specs.core_state.Seen.{IsFit, IsSubmitted}
-use Rattle.command_core.specs.core_state.StandsFor.{history_of}
+use Rattle.command_core.specs.core_state.StandsFor.{EachImage, history_of}
 use Rattle.command_core.specs.core_settles.declared.answers.Settled.{Settled}
 use Rattle.command_core.specs.core_settles.declared.answers.Settled.TheVariants as settled
 use Rattle.command_core.specs.core_settles.declared.answers.Verdict.{Verdict}
 use Rattle.command_core.specs.core_settles.declared.answers.Verdict.TheVariants as verdict
-use Rattle.command_core.specs.core_settles.Settles.{IsVerdictOf, IsSpent, LeavesPending, StoreRose, settled_events}
+use Rattle.command_core.specs.core_settles.Settles.{IsVerdictOf, IsSpent, LeavesPending, SettleImage, StoreRose, settled_events}
+use Rattle.command_core.proofs.of_core_state.Tests.{claimed_stands}
 use Rattle.core_course.specs.Sight.{Sight, Stood, is_down}
 use Rattle.core_drain.proofs.Links.{core_up}
 use Rattle.core_drain.proofs.Fails.{rose_behind}
@@ -32,7 +33,7 @@ use Rattle.core_drain.proofs.Records.{none_more}
 use Rattle.core_drain.proofs.Settles.{SettleSays}
 use Rattle.core_drain.proofs.Waits.{released_waits}
 use Rattle.core_drain.specs.Answers.{after_settle}
-use Rattle.core_drain.specs.Ends.{SomethingWaits, IsLeft, to_settle, LacksDone, EndsHere}
+use Rattle.core_drain.specs.Ends.{SomethingWaits, IsLeft, to_settle, LacksDone, ChangeIsOpen, EndsHere}
 use Rattle.command_core.specs.log_spec.Limits.{most_log}
 use Rattle.command_core.proofs.of_core_settles.SettledParts.{claimed_some}
 
@@ -50,6 +51,7 @@ module _ {D K : Type 0} (w : Sight D K) where
     pub store_down : is_down w old ≡ false → (w.store_down new.store ≡ true) ↔ (came ≡ settled.StoreDown)
     pub up : (came ≡ settled.QueueFault → ⊥) → (came ≡ settled.StoreDown → ⊥) → is_down w new ≡ is_down w old
     pub twice : is_down w old ≡ false → queue_down new.queue ≡ true → QueueRoseTwice w.faults old.queue new.queue
+    pub each_image : (start : History) → Stood w old start → EachImage w.may_leave w.images new (SettleImage came new.undone job new.tables.ttls (history_of new start))
 
   -- what was released is queued
   released_is : (r : ℕ) (b : Bool) (s : Standing) → (r == r) ≡ b → (if b then queued else s) ≡ queued
@@ -121,10 +123,29 @@ module _ {D K : Type 0} (w : Sight D K) where
       events = fault_added says true down is how;
       queue = λ calm told records there. none_more (log.queued w.seen old.queue) (log.queued w.seen new.queue) records (says.queue_writes.1 calm told) there;
       twice = λ went. a.twice up went;
+      images = λ start stood q s q_image s_image.
+          subst (λ (b : Bool). SettleImage settled.QueueFault b job new.tables.ttls (history_of new start) q s) is (a.each_image start stood q s q_image s_image);
     })
     fault_left says a false true is how =
         inr (is, claim_left job.receipt old new (a.waits is) (fault_added says false true is how) (is_claimed_by settled.QueueFault (λ e. cc) a (is_claimed job.receipt old.pending) refl))
     fault_left says a false false is how = inr (is, release_left job.receipt old new (a.waits is) says.stands (fault_added says false false is how))
+
+    -- the command stays claimed, and its change may be in the store
+    change_open : SettleSays w settled.StoreDown job v old new → SettleAnswers settled.StoreDown job v old new → is_claimed job.receipt old.pending ≡ true → ChangeIsOpen w old new
+    change_open says a is = record {
+      waits = claim_left job.receipt old new (a.waits tt) says.adds is;
+      receipt = job.receipt;
+      moment = Some job.command.received;
+      stands = λ start stood.
+          let held = stood.holds.says in
+          ap (λ (es : History). standing job.receipt (es ++ start)) says.adds
+          ∙ claimed_stands old.tables.ttls (history_of old start) held.plain.legal old.pending held.pending job.receipt is;
+      more = [];
+      events = says.adds;
+      queue_up = ap queue_down says.leaves ∙ (core_up w old up).queue;
+      queue = λ told records there. none_more (log.queued w.seen old.queue) (log.queued w.seen new.queue) records (ap (log.queued w.seen) says.leaves) there;
+      images = λ start stood q s q_image s_image. a.each_image start stood q s q_image s_image;
+    }
 
     pub settle_ends : (came : Settled) → SettleSays w came job v old new → SettleAnswers came job v old new → EndsHere w (after_settle came) old new
     settle_ends settled.Applied says a = a.up (λ e. absurd cc) (λ e. absurd cc) ∙ up
@@ -133,7 +154,7 @@ module _ {D K : Type 0} (w : Sight D K) where
     settle_ends settled.StoreDown says a = (
       rose_behind w 2 old new says.adds (rose_twice v (w.store_faults old.store) (w.store_faults new.store) a.store_cause (no_refusal a)),
       (a.store_down up).1 refl,
-      claim_left job.receipt old new (a.waits tt) says.adds (is_claimed_by settled.StoreDown (λ e. cc) a (is_claimed job.receipt old.pending) refl),
+      change_open says a (is_claimed_by settled.StoreDown (λ e. cc) a (is_claimed job.receipt old.pending) refl),
     )
     settle_ends settled.QueueFault says a = (
       says.cause.cause refl,

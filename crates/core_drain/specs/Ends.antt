@@ -13,7 +13,7 @@ use Rattle.command_core.specs.queue_log.Queued.{queue_pair, queue_down, queue_si
 use Rattle.command_core.specs.core_state.declared.state.CoreState.{CoreState}
 use Rattle.command_core.specs.core_state.Puts.{QueueRoseTwice}
 use Rattle.command_core.specs.core_state.Seen.{IsFit, IsSubmitted}
-use Rattle.command_core.specs.core_state.StandsFor.{history_of}
+use Rattle.command_core.specs.core_state.StandsFor.{EachImage, StandsAt, history_of}
 use Rattle.command_core.specs.core_claims.Claims.{IsOverfull}
 use Rattle.command_core.specs.core_claims.declared.job.Job.{Job}
 use Rattle.command_core.specs.core_settles.declared.answers.Verdict.{Verdict}
@@ -42,7 +42,7 @@ QueueRose w old new =
     ⊎ RoseBy 1 (w.faults (disk_b (queue_pair old.queue))) (w.faults (disk_b (queue_pair new.queue)))
 
 -- The last event applied a command whose Done isn't in the queue's log, which has the records of the earlier events. Or that log
--- went down, and the fault count of one of its disks rose by two.
+-- went down, and the fault count of one of its disks rose by two. Each image of the disks stands for the history.
 pub record LacksDone {D K : Type 0} (w : Sight D K) (old new : CoreState D K) : Type 0 where
   pub undone : new.undone ≡ true
   pub receipt : ℕ
@@ -52,6 +52,23 @@ pub record LacksDone {D K : Type 0} (w : Sight D K) (old new : CoreState D K) : 
   pub queue : queue_down new.queue ≡ false → IsTrue w.tells → (records : List QueueRecord) → log.queued w.seen old.queue ≡ Some records
       → log.queued w.seen new.queue ≡ Some (records ++ queue_trace earlier)
   pub twice : queue_down new.queue ≡ true → QueueRoseTwice w.faults old.queue new.queue
+  pub images : (start : History) → Stood w old start → EachImage w.may_leave w.images new (λ q s. StandsAt new.tables.ttls q s (history_of new start))
+
+-- The store's log went down as the change of a claimed command was written. The queue's log is up, and has exactly the records of
+-- the events. Each image of the disks stands for the history, or for it and that change.
+pub record ChangeIsOpen {D K : Type 0} (w : Sight D K) (old new : CoreState D K) : Type 0 where
+  pub waits : SomethingWaits w old new
+  pub receipt : ℕ
+  pub moment : Option ℤ
+  pub stands : (start : History) → Stood w old start → standing receipt (history_of new start) ≡ claimed
+  pub more : History
+  pub events : new.events.list ≡ more ++ old.events.list
+  pub queue_up : queue_down new.queue ≡ false
+  pub queue : IsTrue w.tells → (records : List QueueRecord) → log.queued w.seen old.queue ≡ Some records
+      → log.queued w.seen new.queue ≡ Some (records ++ queue_trace more)
+  pub images : (start : History) → Stood w old start
+      → EachImage w.may_leave w.images new
+      (λ q s. StandsAt new.tables.ttls q s (history_of new start) ⊎ StandsAt new.tables.ttls q s (Apply receipt moment ∷ history_of new start))
 
 -- The store's fault count rose by n from some earlier value, and no failure was counted above that value.
 pub record RoseBehindFails {D K : Type 0} (w : Sight D K) (n : ℕ) (old new : CoreState D K) : Type 0 where
@@ -68,7 +85,7 @@ IsLeft w old new = (new.undone ≡ false) × SomethingWaits w old new
 abbrev pub EndsSo : {D K : Type 0} → Sight D K → WorkEnd → CoreState D K → CoreState D K → Type 0
 EndsSo w Done old new = (is_down w new ≡ false) × (new.pending ≡ [])
 EndsSo w QueueFault old new = QueueRose w old new × (w.store_down new.store ≡ false) × (LacksDone w old new ⊎ IsLeft w old new)
-EndsSo w StoreDown old new = RoseBehindFails w 2 old new × (w.store_down new.store ≡ true) × SomethingWaits w old new
+EndsSo w StoreDown old new = RoseBehindFails w 2 old new × (w.store_down new.store ≡ true) × ChangeIsOpen w old new
 EndsSo w Spent old new = (is_down w new ≡ false) × HasNoRoom w old new × SomethingWaits w old new
 EndsSo w Down old new = new ≡ old
 EndsSo w Memory old new = is_down w new ≡ false

@@ -13,8 +13,8 @@
 //! - `last`: the last call of the core answered the end. So a fault that was got over ends nothing.
 //! - `unclaimed`: if the core is up in the end, nothing is claimed. Down comes exactly if the core was down (`down`).
 //! - `ends`: Done only if nothing is pending. At QueueFault a command is pending, or the last applied one lacks its Done
-//!   (`LacksDone`). At StoreDown a command is pending, and the store's count rose by two beyond the counted failures. Spent
-//!   only if a record that would settle or supersede has no room.
+//!   (`LacksDone`). At StoreDown a command is pending whose change may be in the store (`ChangeIsOpen`), and the store's count
+//!   rose by two beyond the counted failures. Spent only if a record that would settle or supersede has no room.
 //!
 //! Costs: sixteen turns for each command, and one more. Running out of turns is Memory too. A counted failure of the store ends
 //! nothing.

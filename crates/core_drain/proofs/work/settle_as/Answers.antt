@@ -89,6 +89,7 @@ returns-in_default-clause-ends g c =
       store_down = c.settle.ensures.does.store_down;
       up = c.settle.ensures.does.up;
       twice = c.settle.ensures.does.twice;
+      each_image = c.settle.ensures.does.each_image;
     } in
     subst (λ (end : Option WorkEnd). EndsHere w end c.args.core.now c.settle.new.self) (sym c.end_of.ensures)
     (settle_ends w c.args.job c.args.verdict c.args.core.now c.settle.new.self c.requires.submitted c.requires.decodes c.requires.fit c.requires.up c.settle.result says answers)
