@@ -136,7 +136,7 @@ module _ {D K : Type 0} (w : Sight D K) where
     drain_works = worked_on w start closed final before finish.worked
 
     fell : (down : is_down w closed ≡ true) → WentDown w true freed closed → EndsHere w (Some end) freed closed
-    fell down (by_store store rose waits) = subst (λ (e : WorkEnd). EndsHere w (Some e) freed closed) (sym (finish.by_store store)) (rose, store, waits refl)
+    fell down (by_store store rose left) = subst (λ (e : WorkEnd). EndsHere w (Some e) freed closed) (sym (finish.by_store store)) (rose, store, left refl)
     fell down (by_queue store rose left) = subst (λ (e : WorkEnd). EndsHere w (Some e) freed closed) (sym (finish.by_queue down store)) (rose, store, left refl)
 
     ends_by : (was : Bool) → is_down w closed ≡ was → EndsHere w (Some end) start final

@@ -34,7 +34,7 @@ use Rattle.core_drain.specs.Answers.{after_claim, after_settle}
 use Rattle.core_drain.specs.Ends.{EndsHere}
 use Rattle.core_drain.proofs.SettleEnds.{SettleAnswers, settle_ends}
 use Rattle.core_drain.proofs.ClaimEnds.{ClaimAnswers, claim_ends}
-use Rattle.core_drain.proofs.Later.{queue_rose_later, behind_later, waits_later, fault_later}
+use Rattle.core_drain.proofs.Later.{queue_rose_later, behind_later, open_later, fault_later}
 use Rattle.fleet_hub.specs.Calls.{SubmitDoes, ClaimDoes, ReleaseDoes, SettleDoes, SweepDoes}
 use Rattle.fleet_hub.specs.Follows.{MayWrite, is_work, is_submit, is_sweep, WentDown, by_store, by_queue, Follows}
 
@@ -125,6 +125,7 @@ module _ {D K : Type 0} (w : Sight D K) where
           store_down = d.store_down;
           up = d.up;
           twice = d.twice;
+          each_image = d.each_image;
         } in
         follows_work (settle_works w came job v old new was decodes says) (λ down. subst (λ (x : Settled). SettleLeaves w.store_size x job v old new) (d.down.1 down) d.leaves) (after_settle came)
         (λ up. settle_ends w job v old new was decodes fit up came says answers)
@@ -222,7 +223,7 @@ module _ {D K : Type 0} (w : Sight D K) where
 
   module _ (only : Bool) (a b c : CoreState D K) (p : Follows w only a b) (q : Follows w only b c) where
     went_later : is_down w b ≡ false → WentDown w only b c → WentDown w only a c
-    went_later up (by_store down rose waits) = by_store down (behind_later w p.more a b c p.passed 2 rose) (λ alone. waits_later w p.more a b c p.passed (waits alone))
+    went_later up (by_store down rose left) = by_store down (behind_later w p.more a b c p.passed 2 rose) (λ alone. open_later w p.more a b c p.passed up (left alone))
     went_later up (by_queue store rose left) = by_queue store (queue_rose_later w p.more a b c p.passed rose) (λ alone. fault_later w p.more a b c p.passed up (left alone))
 
     went_joined : (was : Bool) → is_down w b ≡ was → is_down w a ≡ false → is_down w c ≡ true → WentDown w only a c

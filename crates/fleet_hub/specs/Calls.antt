@@ -16,7 +16,7 @@ use Rattle.core_drain.specs.core_state.Changes.{OthersStay, MemoryStays, CoreSta
 use Rattle.core_drain.specs.core_state.Moments.{Within, StandsAmid}
 use Rattle.core_drain.specs.core_state.Puts.{QueueCounts, QueueRoseTwice}
 use Rattle.core_drain.specs.core_state.Seen.{IsSubmitted}
-use Rattle.core_drain.specs.core_state.StandsFor.{history_of}
+use Rattle.core_drain.specs.core_state.StandsFor.{EachImage, history_of}
 use Rattle.fleet_rows.specs.declared.submitted.Submitted.{Submitted}
 use Rattle.fleet_rows.specs.declared.submitted.Submitted.TheVariants as submit_answer
 use Rattle.core_drain.specs.core_submits.Submits as submits
@@ -31,7 +31,7 @@ use Rattle.core_drain.specs.core_settles.declared.answers.Settled.TheVariants as
 use Rattle.core_drain.specs.core_settles.declared.answers.Verdict.{Verdict}
 use Rattle.core_drain.specs.core_settles.declared.answers.Verdict.TheVariants as verdict
 use Rattle.core_drain.specs.core_settles.Settles as settles
-use Rattle.core_drain.specs.core_settles.Settles.{SettleGives, IsSettling, StoreRose, settled_events, SettleLeaves, queue_record, QueueWrites, StoreWrites, is_applied, IsMemory}
+use Rattle.core_drain.specs.core_settles.Settles.{SettleGives, IsSettling, StoreRose, settled_events, SettleLeaves, SettleImage, queue_record, QueueWrites, StoreWrites, is_applied, IsMemory}
 use Rattle.core_drain.specs.core_sweeps.declared.answers.Swept.{Swept}
 use Rattle.core_drain.specs.core_sweeps.declared.answers.Swept.TheVariants as sweep_answer
 use Rattle.core_drain.specs.core_sweeps.Sweeps.{SweepAdds, SweepWrites, IsSweep, IsCalm, IsStoreFault}
@@ -116,6 +116,7 @@ module _ {D K : Type 0} (w : Sight D K) where
         → SettleGives came job v (w.store_faults old.store) (w.store_faults new.store) (is_down w new) (history_of old start) (history_of new start)
     pub stands : Stands old new
     pub any_moment : Amid (λ start. IsSettling job v (w.store_faults old.store) (w.store_faults new.store)) old new
+    pub each_image : (start : History) → Stood w old start → EachImage w.may_leave w.images new (SettleImage came new.undone job new.tables.ttls (history_of new start))
     pub submitted : KeepsSubmitted old new
     pub opening : OpeningStays old new
     pub keeper : KeepsStore generation old new

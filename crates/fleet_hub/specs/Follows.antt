@@ -8,7 +8,7 @@ use Rattle.core_drain.specs.core_state.declared.state.CoreState.{CoreState}
 use Rattle.core_drain.specs.core_course.Sight.{Sight, is_down}
 use Rattle.core_drain.specs.core_course.Courses.{Course, Passed}
 use Rattle.core_drain.specs.core_course.Work.{IsWork, KeepsMoments}
-use Rattle.core_drain.specs.Ends.{SomethingWaits, IsLeft, QueueRose, LacksDone, RoseBehindFails}
+use Rattle.core_drain.specs.Ends.{IsLeft, QueueRose, LacksDone, ChangeIsOpen, RoseBehindFails}
 
 -- The events of the record that a call may write: those of work. Unless the hub is for work alone, also a command under the next
 -- receipt, or a sweep.
@@ -18,10 +18,10 @@ pub data MayWrite {D K : Type 0} (only_work : Bool) (core : CoreState D K) (begu
   is_sweep : only_work ≡ false → (kinds : Kinds) → (m : ℤ) → begun ≡ Sweep kinds m ∷ [] → MayWrite only_work core begun
 
 -- A core that was up went down. By the store, whose count rose by two after the counted failures; or by the queue, of which one
--- count rose. A count may instead stand at 2^64 - 1. If only work was done, something is still pending. For the queue, a Done may
--- be missing instead.
+-- count rose. A count may instead stand at 2^64 - 1. If only work was done, something is still pending: for the store, the command
+-- whose change was being written. For the queue, a Done may be missing instead.
 pub data WentDown {D K : Type 0} (w : Sight D K) (only_work : Bool) (old new : CoreState D K) : Type 0 where
-  by_store : w.store_down new.store ≡ true → RoseBehindFails w 2 old new → (only_work ≡ true → SomethingWaits w old new) → WentDown w only_work old new
+  by_store : w.store_down new.store ≡ true → RoseBehindFails w 2 old new → (only_work ≡ true → ChangeIsOpen w old new) → WentDown w only_work old new
   by_queue : w.store_down new.store ≡ false → QueueRose w old new → (only_work ≡ true → LacksDone w old new ⊎ IsLeft w old new) → WentDown w only_work old new
 
 -- Calls lead from the first core to the second. On a hub for work alone, no command and no sweep came in.

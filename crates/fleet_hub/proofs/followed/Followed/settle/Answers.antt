@@ -32,6 +32,7 @@ invariant_of-self g c =
       gives = c.settle.ensures.does.gives;
       stands = c.settle.ensures.does.stands;
       any_moment = c.settle.ensures.does.any_moment;
+      each_image = c.settle.ensures.does.each_image;
       submitted = c.settle.ensures.does.kept_submitted;
       opening = c.settle.ensures.does.opening;
       keeper = record { same_generation = c.settle.ensures.does.keeper.same_generation; same_opening = c.settle.ensures.does.keeper.same_opening; bounds = c.settle.ensures.does.keeper.bounds };
@@ -61,6 +62,7 @@ returns-clause-does g c =
       gives = c.settle.ensures.does.gives;
       stands = c.settle.ensures.does.stands;
       any_moment = c.settle.ensures.does.any_moment;
+      each_image = c.settle.ensures.does.each_image;
       submitted = c.settle.ensures.does.kept_submitted;
       opening = c.settle.ensures.does.opening;
       keeper = record { same_generation = c.settle.ensures.does.keeper.same_generation; same_opening = c.settle.ensures.does.keeper.same_opening; bounds = c.settle.ensures.does.keeper.bounds };
@@ -94,6 +96,7 @@ returns-clause-grows g c =
       gives = c.settle.ensures.does.gives;
       stands = c.settle.ensures.does.stands;
       any_moment = c.settle.ensures.does.any_moment;
+      each_image = c.settle.ensures.does.each_image;
       submitted = c.settle.ensures.does.kept_submitted;
       opening = c.settle.ensures.does.opening;
       keeper = record { same_generation = c.settle.ensures.does.keeper.same_generation; same_opening = c.settle.ensures.does.keeper.same_opening; bounds = c.settle.ensures.does.keeper.bounds };
