@@ -13,7 +13,7 @@ use Rattle.fleet_hub.specs.core_course.Sight.{Sight, is_down}
 use Rattle.fleet_hub.specs.core_course.Courses.{Passed}
 use Rattle.fleet_hub.specs.core_course.Work.{Worked}
 use Rattle.fleet_hub.specs.core_drain.Ends.{SomethingWaits}
-use Rattle.fleet_hub.proofs.of_core_drain.Later.{queue_rose_later, waits_later, room_later, behind_later, fault_later}
+use Rattle.fleet_hub.proofs.of_core_drain.Later.{queue_rose_later, waits_later, open_later, room_later, behind_later, fault_later}
 use Rattle.spool_run.specs.declared.ends.SpoolEnd.{SpoolEnd}
 use Rattle.spool_run.specs.declared.ends.SpoolEnd.TheVariants as end
 use Rattle.fleet_hub.specs.core_spec.declared.entry.Entry.{Entry}
@@ -39,7 +39,7 @@ module _ {D K : Type 0} (w : Sight D K) (now : â„¤) (bytes rest : Option (List â
   drain_ends (end.Bad at) d = absurd d
   drain_ends end.ReadFault d = absurd d
   drain_ends end.QueueFault d = inr (record { items = items; spool = front; took = took; after = (queue_rose_later w past a b c p d.0, d.1, fault_later w past a b c p up d.2) })
-  drain_ends end.StoreDown d = record { items = items; spool = front; took = took; after = (behind_later w past a b c p 2 d.0, d.1, intake.waits (waits d.2)) }
+  drain_ends end.StoreDown d = record { items = items; spool = front; took = took; after = (behind_later w past a b c p 2 d.0, d.1, intake.waits (open_later w past a b c p up d.2)) }
   drain_ends end.StoreFault d = absurd d
   drain_ends end.Spent d = inr (record { items = items; spool = front; took = took; after = (d.0, intake.to_settle (room_later w past a b c p d.1) (waits d.2)) })
   drain_ends end.Memory d = record { items = items; spool = front; took = took; after = d }

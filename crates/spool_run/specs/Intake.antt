@@ -18,7 +18,7 @@ use Rattle.fleet_hub.specs.core_course.Sight.{Sight, Stood, is_down}
 use Rattle.fleet_hub.specs.core_course.Courses.{Course, Passed}
 use Rattle.fleet_hub.specs.core_course.Work.{IsWork}
 use Rattle.fleet_hub.specs.core_submits.Submits as submits
-use Rattle.fleet_hub.specs.core_drain.Ends.{HasNoRoom, QueueRose, LacksDone, RoseBehindFails, SomethingWaits, IsLeft}
+use Rattle.fleet_hub.specs.core_drain.Ends.{HasNoRoom, QueueRose, LacksDone, ChangeIsOpen, RoseBehindFails, SomethingWaits, IsLeft}
 use Rattle.spool_run.specs.declared.ends.SpoolEnd.{SpoolEnd}
 use Rattle.spool_run.specs.declared.ends.SpoolEnd.TheVariants as end
 use Rattle.spool_run.specs.Rules.{NothingIsDue, HasNoRestart, KeepsRules}
@@ -92,9 +92,9 @@ MayHaveSwept w kinds m old new =
     (start : History) → Stood w old start
     → EachImage w.may_leave w.images new (λ q s. StandsAt new.tables.ttls q s (history_of new start) ⊎ StandsAt new.tables.ttls q s (Sweep kinds m ∷ history_of new start))
 
--- A command is pending. Or a sweep comes next, and only its record may be on the disks beyond the history.
+-- A command is claimed, and only its change may be on the disks beyond the history. Or a sweep comes next, and only its record may.
 pub data WorkIsLeft {D K : Type 0} (w : Sight D K) (now : ℤ) (bytes : Option (List ℕ)) (old new : CoreState D K) (items : List Item) : Type 0 where
-  waits : SomethingWaits w old new → WorkIsLeft w now bytes old new items
+  waits : ChangeIsOpen w old new → WorkIsLeft w now bytes old new items
   comes : (next : SweepComes w now bytes old new items) → MayHaveSwept w next.kinds next.moment old new → WorkIsLeft w now bytes old new items
 
 -- no receipt or no room is left for the command that comes next

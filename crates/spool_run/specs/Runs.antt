@@ -181,7 +181,8 @@ CommandWaits w more items old new = SomethingWaits (log_sight w) old new
 abbrev pub DoneIsLacking : {D : Type 0} → DiskSight D → History → List Item → LogCore D → LogCore D → Type 0
 DoneIsLacking w more items old new = LacksDone (log_sight w) old new
 
--- a command is pending or a sweep comes next, and the store failed twice after all counted failures
+-- A command is pending or a sweep comes next, of which alone an image may have a record. The store failed twice after all counted
+-- failures.
 abbrev pub SomethingIsLeft : {D : Type 0} → DiskSight D → ℤ → Option (List ℕ) → Disks D → Disks D → History → List Item → LogCore D → LogCore D → Type 0
 SomethingIsLeft w now spool disks after more items old new = StoreRoseBehind 2 w disks after more × WorkIsLeft (log_sight w) now spool old new items
 

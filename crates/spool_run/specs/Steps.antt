@@ -13,7 +13,7 @@ use Rattle.fleet_hub.specs.core_course.Sight.{Sight, is_down}
 use Rattle.fleet_hub.specs.core_course.Courses.{Link, Passed}
 use Rattle.fleet_hub.specs.core_course.Work.{Worked}
 use Rattle.fleet_hub.specs.core_submits.Submits as submits
-use Rattle.fleet_hub.specs.core_drain.Ends.{HasNoRoom, QueueRose, LacksDone, RoseBehindFails, SomethingWaits, IsLeft}
+use Rattle.fleet_hub.specs.core_drain.Ends.{HasNoRoom, QueueRose, LacksDone, ChangeIsOpen, RoseBehindFails, SomethingWaits, IsLeft}
 use Rattle.spool_run.specs.declared.ends.SpoolEnd.{SpoolEnd}
 use Rattle.spool_run.specs.declared.ends.SpoolEnd.TheVariants as end
 use Rattle.spool_run.specs.Rules.{IsBatch, before_work}
@@ -25,7 +25,7 @@ use Rattle.spool_run.specs.Fronts.{IsReadTo}
 abbrev pub DrainEnds : {D K : Type 0} → Sight D K → Option SpoolEnd → CoreState D K → CoreState D K → Type 0
 DrainEnds w None old new = (is_down w new ≡ false) × (new.pending ≡ [])
 DrainEnds w (Some end.QueueFault) old new = QueueRose w old new × (w.store_down new.store ≡ false) × (LacksDone w old new ⊎ IsLeft w old new)
-DrainEnds w (Some end.StoreDown) old new = RoseBehindFails w 2 old new × (w.store_down new.store ≡ true) × SomethingWaits w old new
+DrainEnds w (Some end.StoreDown) old new = RoseBehindFails w 2 old new × (w.store_down new.store ≡ true) × ChangeIsOpen w old new
 DrainEnds w (Some end.Spent) old new = (is_down w new ≡ false) × HasNoRoom w old new × SomethingWaits w old new
 DrainEnds w (Some end.Memory) old new = is_down w new ≡ false
 DrainEnds w (Some _) old new = ⊥

@@ -32,7 +32,7 @@
 //! | WriteFault | as Done or SpoolBad, with a proper prefix of the summary |
 //! | ReadFault | the items of the bytes that were read; no batch or unfinished drain is pending |
 //! | QueueFault | a prefix; a command comes next or is pending, or the last applied one lacks its Done |
-//! | StoreDown | a prefix; a command is pending, or a sweep comes next |
+//! | StoreDown | a prefix; a command is pending, or a sweep comes next; an image may have that change or that sweep |
 //! | StoreFault | a prefix; a sweep comes next, and nothing is pending |
 //! | Spent | a prefix; no receipt or no room for the next command, sweep or settling |
 //! | Memory | a prefix |
