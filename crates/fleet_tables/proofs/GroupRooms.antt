@@ -5,10 +5,11 @@ use Rattle.checkpoint_spec.specs.fleet_rows.declared.change.Change.{Change}
 use Rattle.checkpoint_spec.specs.table_machine.Steps.{find_node, with_node}
 use Rattle.checkpoint_spec.specs.table_machine.Table.{Node}
 use Rattle.fleet_tables.specs.Groups.{joined, AreBelow, AreAbove, AreFew}
-use Rattle.fleet_tables.specs.Places.{reports_of}
-use Rattle.fleet_tables.specs.Rooms.{IsShownFor, IsNewFor, IsRoomAt}
+use Rattle.kept_nodes.specs.Places.{reports_of}
+use Rattle.kept_nodes.specs.Computed.{IsShownFor}
+use Rattle.fleet_tables.specs.Rooms.{IsNewFor, IsRoomAt}
 use Rattle.fleet_tables.specs.declared.room.NewNode.{NewNode}
-use Rattle.fleet_tables.specs.declared.room.Derived.{Derived}
+use Rattle.kept_nodes.specs.declared.computed.Derived.{Derived}
 use Rattle.fleet_tables.proofs.JoinedNodes.{Groups, parted, found_in, put_parted}
 use Rattle.fleet_tables.proofs.RowBounds.{few_part}
 
@@ -41,3 +42,11 @@ module _ (groups : Groups) (k : ℕ) (g : List Node) (there : slice_get groups k
   few_in step few =
       few_part (joined (take k groups)) (with_node (change_certname change) step g) (joined (drop (suc k) groups))
       (subst AreFew (put_parted (change_certname change) groups k g there below above step) few)
+
+-- ---- the new node that room has
+
+pub new_for : (new : Option NewNode) (one : NewNode) (found : Option Node) (certname : List ℕ) (nodes : ℕ) → new ≡ Some one → found ≡ None → IsNewFor new found certname nodes → IsNew one certname nodes
+new_for new one found certname nodes e absent h = subst (λ (p : Option NewNode × Option Node). IsNewFor p.0 p.1 certname nodes) (λ i. (e i, absent i)) h
+
+pub has_new : (new : Option NewNode) (found : Option Node) (certname : List ℕ) (nodes : ℕ) → new ≡ None → found ≡ None → IsNewFor new found certname nodes → ⊥
+has_new new found certname nodes e absent h = subst (λ (p : Option NewNode × Option Node). IsNewFor p.0 p.1 certname nodes) (λ i. (e i, absent i)) h

@@ -11,13 +11,13 @@ use Rattle.checkpoint_spec.specs.fleet_rows.declared.row.Entity.TheVariants.{Nod
 use Rattle.checkpoint_spec.specs.fleet_rows.declared.settings.Ttls.{Ttls}
 use Rattle.checkpoint_spec.specs.table_machine.Rows.{node_rows}
 use Rattle.checkpoint_spec.specs.table_machine.Table.{Node}
-use Rattle.fleet_tables.specs.Counted.{plus, less, count_of, IsWithin, IsPart}
+use Rattle.kept_nodes.specs.Counted.{plus, less, count_of, IsWithin, IsPart}
 use Rattle.fleet_tables.specs.Groups.{joined, rows_of, AreCountsOf, AreFew, IsRowOf}
-use Rattle.fleet_tables.specs.declared.counts.Counts.{Counts}
-use Rattle.fleet_tables.proofs.Counting.{count-plus}
+use Rattle.kept_nodes.specs.declared.counts.Counts.{Counts}
+use Rattle.kept_nodes.proofs.Counting.{count-plus}
 use Rattle.fleet_tables.proofs.JoinedNodes.{Groups, parted, parted_set, dropped, taken}
 use Rattle.fleet_tables.proofs.RowBounds.{counts_joined, few_part, few_counted}
-use Rattle.fleet_tables.proofs.RowPlaces.{get_right}
+use Rattle.kept_nodes.proofs.RowPlaces.{get_right}
 
 -- ---- one group more is counted
 

@@ -9,14 +9,14 @@ use Rattle.checkpoint_spec.proofs.of_history_laws.Members.{Among}
 use Rattle.checkpoint_spec.proofs.of_history_laws.StrictlySorted.{sorted-nil, sorted-cons, sorted-below, sorted-rest}
 use Rattle.checkpoint_spec.specs.table_machine.Table as machine
 use Rattle.checkpoint_spec.specs.table_machine.Table.{node_cmp}
-use Rattle.fleet_tables.specs.Counted.{none, total_from, AreCountedFrom, IsWithin}
+use Rattle.kept_nodes.specs.Counted.{none, total_from, AreCountedFrom, IsWithin}
 use Rattle.fleet_tables.specs.Groups.{StandInOrder, AreFew}
-use Rattle.fleet_tables.specs.Kept.{IsNode, AreNodes}
-use Rattle.fleet_tables.specs.Places.{Boxes, nodes_in, seen_in, InOrder}
-use Rattle.fleet_tables.specs.Seen.{node_seen}
-use Rattle.fleet_tables.specs.declared.counts.Counts.{Counts}
-use Rattle.fleet_tables.specs.declared.node.Node.{Node}
-use Rattle.fleet_tables.proofs.Counting.{counted_front, within_front}
+use Rattle.kept_nodes.specs.Kept.{IsNode, AreNodes}
+use Rattle.kept_nodes.specs.Places.{Boxes, nodes_in, seen_in, InOrder}
+use Rattle.kept_nodes.specs.Seen.{node_seen}
+use Rattle.kept_nodes.specs.declared.counts.Counts.{Counts}
+use Rattle.kept_nodes.specs.declared.node.Node.{Node}
+use Rattle.kept_nodes.proofs.Counting.{counted_front, within_front}
 use Rattle.fleet_tables.proofs.RowBounds.{nodes_counted, counted_few, few_part, few_within}
 
 -- ---- lists

@@ -17,7 +17,7 @@ use Rattle.checkpoint_spec.specs.table_machine.Table.{Node, node_cmp}
 use Rattle.checkpoint_spec.specs.table_machine.Steps.{empty_node, find_node, with_node}
 use Rattle.fleet_tables.specs.Groups.{joined, IsFilled, AreFilledOrOne, StandInOrder, starts_above, AreBelow, AreAbove}
 use Rattle.checkpoint_spec.proofs.ListLaws.{turned_greater}
-use Rattle.fleet_tables.proofs.PutNodes.{all-set}
+use Rattle.kept_nodes.proofs.PutNodes.{all-set}
 
 abbrev pub Groups : Type 0
 Groups = List (List Node)

@@ -13,7 +13,7 @@ use Rattle.checkpoint_spec.specs.table_machine.Node.{node_inactive}
 use Rattle.checkpoint_spec.specs.table_machine.Steps.{find_node}
 use Rattle.checkpoint_spec.proofs.of_table_machine.TableLaws.{nodes_are_found, nodes_tell_whether_they_are_inactive}
 use Rattle.fleet_tables.specs.Asked.{newest_in, is_inactive_in}
-use Rattle.fleet_tables.specs.Seen.{newest_rank}
+use Rattle.kept_nodes.specs.Seen.{newest_rank}
 use Rattle.fleet_tables.specs.Stands.{Stands, newest_of}
 
 -- ---- a node is there where its life has a command

@@ -1,6 +1,6 @@
 -- The checkpoint of a history is a list that tables can be made of: its moments are such as stamps name, and its changes meet
 -- their rules.
-use Rattle.std.proofs.Common.{◌≡◌, ℕ, ℤ, List, [], ◌∷◌, ◌++◌, map, Bool, true, false, if◌then◌else◌, Option, Some, None, IfSome, inl, inr, refl, sym, subst}
+use Rattle.std.proofs.Common.{◌≡◌, ℕ, ℤ, List, [], ◌∷◌, map, Bool, true, false, if◌then◌else◌, Option, Some, None, IfSome, inl, inr, refl, sym, subst}
 use Rattle.std.specs.List.{AllByRecursion, flat_map}
 use Rattle.checkpoint_spec.proofs.of_history_laws.Members.{Among, All-from_Among}
 use Rattle.checkpoint_spec.proofs.of_plain_laws.Members.{all_both}

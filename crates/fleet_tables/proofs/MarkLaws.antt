@@ -13,15 +13,15 @@ use Rattle.checkpoint_spec.specs.table_machine.Rows.{node_rows}
 use Rattle.checkpoint_spec.specs.table_machine.Steps.{empty_node, stands, with_node}
 use Rattle.checkpoint_spec.specs.table_machine.Table.{Node, node_cmp}
 use Rattle.checkpoint_spec.proofs.of_table_machine.Risen.{sorted-put}
-use Rattle.fleet_tables.specs.Listed.{with_activity}
-use Rattle.fleet_tables.specs.Counted.{limit, IsWithin}
+use Rattle.kept_nodes.specs.Seen.{with_activity}
+use Rattle.kept_nodes.specs.Counted.{limit, IsWithin}
 use Rattle.fleet_tables.specs.Groups.{joined, IsFilled, StandInOrder, AreBelow, AreAbove, AreCountsOf, AreFew, AreKept}
-use Rattle.fleet_tables.specs.Owned.{IsOwn}
-use Rattle.fleet_tables.specs.declared.counts.Counts.{Counts}
+use Rattle.kept_nodes.specs.Owned.{IsOwn}
+use Rattle.kept_nodes.specs.declared.counts.Counts.{Counts}
 use Rattle.fleet_tables.proofs.JoinedNodes.{Groups, put_parted}
 use Rattle.fleet_tables.proofs.OwnLaws.{all_marked_own}
 use Rattle.fleet_tables.proofs.RowBounds.{put_bound, few_part, counted_few}
-use Rattle.fleet_tables.proofs.RowCounts.{nodes_count}
+use Rattle.kept_nodes.proofs.RowCounts.{nodes_count}
 
 node_cmp_total : IsTotalOrder node_cmp
 node_cmp_total = on_total (λ (n : Node). n.certname) text_cmp_total

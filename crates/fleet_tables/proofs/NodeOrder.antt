@@ -19,7 +19,7 @@ use Rattle.checkpoint_spec.specs.table_machine.Table.{Node, node_cmp}
 use Rattle.checkpoint_spec.specs.table_machine.Steps.{empty_node, with_applied, with_node, with_retained}
 use Rattle.checkpoint_spec.proofs.of_table_machine.Risen.{sorted-put}
 use Rattle.checkpoint_spec.specs.table_machine.Node.{node_purged}
-use Rattle.fleet_tables.specs.Places.{left_by_purge}
+use Rattle.kept_nodes.specs.Places.{left_by_purge}
 
 -- ---- nodes stay in order
 

@@ -1,5 +1,5 @@
 -- What a node has stays its own, whatever step comes.
-use Rattle.std.proofs.Common.{◌≡◌, ◌∙◌, ℕ, ℤ, List, [], ◌∷◌, length, map, Bool, true, false, not, Option, Some, None, IfSome, refl, sym, ap, subst, if◌then◌else◌}
+use Rattle.std.proofs.Common.{◌≡◌, ℕ, ℤ, List, [], ◌∷◌, length, map, Bool, true, false, not, Option, Some, None, IfSome, refl, sym, if◌then◌else◌}
 use Rattle.std.specs.Prelude.{nat_lt, ◌&&◌}
 use Rattle.std.specs.List.{AllByRecursion, filter, list_any}
 use Rattle.std.specs.Ordering.{is_lt, match_ordering}
@@ -17,13 +17,13 @@ use Rattle.checkpoint_spec.specs.history_spec.Report.{is_below, is_retained}
 use Rattle.checkpoint_spec.specs.history_spec.Trace.{is_kind, rank_of}
 use Rattle.checkpoint_spec.specs.table_machine.Node.{node_purged}
 use Rattle.checkpoint_spec.specs.table_machine.Places.{put}
-use Rattle.checkpoint_spec.specs.table_machine.Steps.{empty_node, limited, of_greater_rank, put_report, stands, with_applied, with_newest, with_node, with_report, with_retained, without_least}
+use Rattle.checkpoint_spec.specs.table_machine.Steps.{empty_node, limited, of_greater_rank, put_report, with_applied, with_newest, with_node, with_report, with_retained, without_least}
 use Rattle.checkpoint_spec.specs.table_machine.Table.{Node}
 use Rattle.checkpoint_spec.specs.table_spec.Sorted.{report_cmp}
 use Rattle.checkpoint_spec.specs.text_spec.Compact.{text_cmp}
-use Rattle.fleet_tables.specs.Listed.{with_activity}
-use Rattle.fleet_tables.specs.Owned.{IsOf, IsOwn}
-use Rattle.fleet_tables.specs.Places.{left_by_purge}
+use Rattle.kept_nodes.specs.Seen.{with_activity}
+use Rattle.kept_nodes.specs.Owned.{IsOf, IsOwn}
+use Rattle.kept_nodes.specs.Places.{left_by_purge}
 
 -- ---- what holds of each element
 

@@ -1,5 +1,5 @@
 -- Room is made for rows that can be counted.
-use Rattle.std.proofs.Common.{◌≡◌, ◌∙◌, ℕ, ◌<◌, ◌^◌, List, [], length, Option, Some, None, Result, IfSome, refl, sym, ap, subst, arith, lit≤}
+use Rattle.std.proofs.Common.{◌≡◌, ◌∙◌, ℕ, ◌<◌, ◌^◌, List, length, Option, Some, None, Result, IfSome, refl, sym, ap, subst, arith, lit≤}
 use Rattle.std.specs.Option.{option_map, unwrap_or}
 use Rattle.std.specs.Vec.{vec_capacity}
 use Rattle.std.specs.declared.alloc.Global.{Global}
@@ -16,20 +16,20 @@ use Rattle.checkpoint_spec.specs.table_machine.Table.{Table}
 use Rattle.checkpoint_spec.specs.table_machine.Steps.{find_node}
 use Rattle.checkpoint_spec.specs.table_machine.Rows.{table_rows}
 use Rattle.checkpoint_spec.specs.table_spec.Rows.{factset_rows, fact_rows, catalog_rows, resource_rows, edge_rows, report_rows}
-use Rattle.fleet_tables.specs.Counted.{plus, count_of, counts_changed, IsWithin}
+use Rattle.kept_nodes.specs.Counted.{plus, count_of, counts_changed, IsWithin}
 use Rattle.fleet_tables.specs.Groups.{AreCountsOf}
 use Rattle.row_cells.specs.Texts.{HasPrintableMoments}
-use Rattle.fleet_tables.specs.ReportPlaces.{IsPlaceAmong, IsPlaceFor}
-use Rattle.fleet_tables.specs.Rooms.{IsShownOf, IsShownFor, HasRoomFor, IsListFor, IsNewFor, IsFirstFor, Fits, IsSpare, IsRoom, with_reports}
-use Rattle.fleet_tables.specs.Places.{reports_of}
-use Rattle.fleet_tables.specs.declared.counts.Counts.{Counts}
-use Rattle.fleet_tables.specs.declared.kept.Report.{Report}
+use Rattle.kept_nodes.specs.ReportPlaces.{IsPlaceFor}
+use Rattle.kept_nodes.specs.Computed.{IsShownOf, HasRoomFor, IsListFor, with_reports}
+use Rattle.fleet_tables.specs.Rooms.{IsNewFor, IsFirstFor, Fits, IsSpare, IsRoom}
+use Rattle.kept_nodes.specs.Places.{reports_of}
+use Rattle.kept_nodes.specs.declared.counts.Counts.{Counts}
+use Rattle.kept_nodes.specs.declared.kept.Report.{Report}
 use Rattle.fleet_tables.specs.declared.room.NewNode.{NewNode}
-use Rattle.fleet_tables.specs.declared.room.Derived.{Derived}
-use Rattle.fleet_tables.specs.declared.room.Derived.TheVariants as shown
-use Rattle.fleet_tables.specs.declared.room.ReportShown.{ReportShown}
+use Rattle.kept_nodes.specs.declared.computed.Derived.{Derived}
+use Rattle.kept_nodes.specs.declared.computed.Derived.TheVariants as shown
 use Rattle.fleet_tables.specs.declared.room.Spare.{Spare}
-use Rattle.fleet_tables.proofs.RowCounts.{facts_length, resources_length, edges_length, nodes_count}
+use Rattle.kept_nodes.proofs.RowCounts.{facts_length, resources_length, edges_length, nodes_count}
 
 -- so many rows the change has
 pub record ChangeCounts (c : Counts) (change : Change) : Type 0 where
@@ -106,14 +106,6 @@ shown_still (shown.Report s) (change.Catalog c) reports place h = absurd h
 shown_still (shown.Report s) (change.Deactivate c) reports place h = absurd h
 shown_still (shown.Report s) (change.Expiration c) reports place h = absurd h
 shown_still shown.Nothing change reports place h = h
-
--- the list for a report is empty, and has room
-pub list_in_room : (s : ReportShown) (r : ReportChange) (reports : List Applied) → IsShownFor (shown.Report s) (change.Report r) reports → (s.reports.items ≡ []) × (length reports < vec_capacity s.reports)
-list_in_room s r reports h = let room : HasRoomFor (shown.Report s) (change.Report r) reports = h.1 in (room.0, room.1)
-
--- the room for a report tells its place
-pub place_in_room : (s : ReportShown) (r : ReportChange) (reports : List Applied) → IsShownFor (shown.Report s) (change.Report r) reports → IsPlaceAmong r reports s.place
-place_in_room s r reports h = let room : HasRoomFor (shown.Report s) (change.Report r) reports = h.1 in room.2
 
 -- the moments of a report for which something is shown can be printed
 pub shown_printable : (shown : Derived) (r : ReportChange) → IsShownOf shown (change.Report r) → HasPrintableMoments r

@@ -24,18 +24,18 @@ use Rattle.checkpoint_spec.specs.table_machine.Table.{Table}
 use Rattle.checkpoint_spec.specs.table_spec.Sorted.{report_cmp}
 use Rattle.checkpoint_spec.specs.table_machine.Steps.{empty_node, of_greater_rank, put_report, without_least, limited, with_newest, with_report, with_applied, with_retained, stands, apply}
 use Rattle.checkpoint_spec.specs.table_spec.Rows.{Cells, change_of, shown, factset_rows, fact_rows, catalog_rows, resource_rows, edge_rows, report_rows}
-use Rattle.fleet_tables.specs.Counted.{none, plus, count_of, total_from, IsWithin, limit}
-use Rattle.fleet_tables.specs.Kept.{IsNode}
+use Rattle.kept_nodes.specs.Counted.{none, plus, count_of, total_from, IsWithin, limit}
+use Rattle.kept_nodes.specs.Kept.{IsNode}
 use Rattle.fleet_tables.specs.Rooms.{Fits}
 use Rattle.checkpoint_spec.specs.table_machine.Rows.{node_rows, table_rows}
-use Rattle.fleet_tables.specs.Seen.{node_seen}
-use Rattle.fleet_tables.specs.declared.counts.Counts.{Counts}
-use Rattle.fleet_tables.specs.declared.node.Node.{Node}
+use Rattle.kept_nodes.specs.Seen.{node_seen}
+use Rattle.kept_nodes.specs.declared.counts.Counts.{Counts}
+use Rattle.kept_nodes.specs.declared.node.Node.{Node}
 use Rattle.fleet_tables.specs.Groups.{AreFew, AreCountsOf}
 use Rattle.checkpoint_spec.specs.fleet_rows.Defaults.{default_ttls}
 use Rattle.std.proofs.lemmas.Grind.{flat_map-append}
-use Rattle.fleet_tables.proofs.Counting.{count-plus}
-use Rattle.fleet_tables.proofs.RowCounts.{nodes_count, same_number, total_is}
+use Rattle.kept_nodes.proofs.Counting.{count-plus}
+use Rattle.kept_nodes.proofs.RowCounts.{nodes_count, same_number, total_is}
 
 -- ---- lists of rows
 

@@ -1,6 +1,5 @@
 -- The walks over nodes and groups that find places: what one step adds to what is done, and takes from what is left.
-use Rattle.std.proofs.Common.{◌≡◌, ◌∙◌, ℕ, ℤ, suc, ◌+◌, ◌-◌, ◌<◌, ◌≤◌, List, [], ◌∷◌, ◌++◌, length, drop, get_or, slice_get, Bool, Option, Some, Ok, Err, refl, sym, ap, subst, arith, add-one, append_assoc, append-nil, length-append}
-use Rattle.std.specs.List.{flat_map}
+use Rattle.std.proofs.Common.{◌≡◌, ◌∙◌, ℕ, ℤ, suc, ◌+◌, ◌-◌, ◌<◌, ◌≤◌, List, [], ◌∷◌, ◌++◌, length, drop, get_or, slice_get, Bool, Option, Some, refl, sym, ap, arith, add-one, append_assoc, append-nil, length-append}
 use Rattle.std.specs.declared.alloc.Global.{Global}
 use Rattle.std.specs.declared.boxed.Box.{Box}
 use Rattle.std.proofs.lemmas.Grind.{flat_map-append}
@@ -12,14 +11,14 @@ use Rattle.checkpoint_spec.specs.fleet_rows.declared.settings.Ttls.{Ttls}
 use Rattle.checkpoint_spec.specs.table_machine.Rows.{node_rows}
 use Rattle.checkpoint_spec.specs.table_machine.Table as machine
 use Rattle.fleet_tables.specs.Groups.{joined, rows_of}
-use Rattle.fleet_tables.specs.Places.{Boxes, seen_in}
-use Rattle.fleet_tables.specs.Runs.{number}
-use Rattle.fleet_tables.specs.Seen.{node_seen}
-use Rattle.fleet_tables.specs.Spans.{neighbours, places_from, IsNthPlace, IsSpanOf}
-use Rattle.fleet_tables.specs.declared.node.Node.{Node}
-use Rattle.fleet_tables.specs.declared.wanted.Span.{Span}
+use Rattle.kept_nodes.specs.Places.{Boxes, seen_in}
+use Rattle.kept_nodes.specs.Runs.{number}
+use Rattle.kept_nodes.specs.Seen.{node_seen}
+use Rattle.kept_nodes.specs.Spans.{neighbours, places_from, IsSpanOf}
+use Rattle.kept_nodes.specs.declared.node.Node.{Node}
+use Rattle.kept_nodes.specs.declared.wanted.Span.{Span}
 use Rattle.fleet_tables.proofs.JoinedNodes.{Groups, dropped}
-use Rattle.fleet_tables.proofs.PlaceLaws.{as_many, nth_behind, nth_front, nth_neighbour, number_both, places_both, span_many}
+use Rattle.kept_nodes.proofs.PlaceLaws.{nth_behind, nth_front, nth_neighbour, number_both, places_both, span_many}
 
 -- ---- what is left is the next part, and what is left behind it
 

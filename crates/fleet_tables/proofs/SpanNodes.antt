@@ -1,38 +1,37 @@
 -- Where the sought rows of one node stand: among the rows of its group's nodes, and of all groups.
-use Rattle.std.proofs.Common.{◌≡◌, ◌∙◌, ℕ, ℤ, zero, suc, ◌+◌, ◌<◌, ◌≤◌, ◌^◌, List, [], ◌∷◌, ◌++◌, length, take, drop, map, slice_get, Option, Some, None, Ok, Err, refl, sym, ap, subst, arith, add-one, append_assoc, length-append, Bool, false}
-use Rattle.std.specs.List.{AllByRecursion, flat_map}
+use Rattle.std.proofs.Common.{◌≡◌, ◌∙◌, ℕ, ℤ, zero, suc, ◌+◌, ◌≤◌, List, [], ◌∷◌, ◌++◌, length, take, drop, map, slice_get, Option, Some, Err, refl, sym, ap, subst, arith, add-one, length-append, Bool, false}
+use Rattle.std.specs.List.{AllByRecursion}
 use Rattle.std.specs.Ordering.{is_eq}
 use Rattle.std.specs.declared.cmp.Ordering.{Ordering}
-use Rattle.std.specs.declared.cmp.Ordering.TheVariants.{Less, Equal, Greater}
+use Rattle.std.specs.declared.cmp.Ordering.TheVariants.{Less, Greater}
 use Rattle.std.proofs.lemmas.Grind.{flat_map-append}
 use Rattle.std.proofs.lemmas.List.{take-append-drop, take-map, drop-map}
 use Rattle.checkpoint_spec.proofs.ListLaws.{turned_greater}
-use Rattle.checkpoint_spec.proofs.of_history_laws.Members.{Among, All-from_Among}
-use Rattle.checkpoint_spec.proofs.of_plain_laws.Members.{all_both, all_take, all_drop, All-Among}
+use Rattle.checkpoint_spec.proofs.of_history_laws.Members.{All-from_Among}
+use Rattle.checkpoint_spec.proofs.of_plain_laws.Members.{all_both, all_take}
 use Rattle.checkpoint_spec.specs.fleet_rows.declared.row.Entity.{Entity}
 use Rattle.checkpoint_spec.specs.fleet_rows.declared.settings.Ttls.{Ttls}
 use Rattle.checkpoint_spec.specs.table_machine.Rows.{node_rows}
 use Rattle.checkpoint_spec.specs.table_machine.Table as machine
 use Rattle.checkpoint_spec.specs.table_spec.Rows.{Cells}
 use Rattle.checkpoint_spec.specs.text_spec.Compact.{text_cmp}
-use Rattle.fleet_tables.specs.Counted.{none, count_of, limit, AreCountedFrom}
-use Rattle.fleet_tables.specs.Groups.{joined, rows_of, AreFew, AreBelow, AreAbove}
-use Rattle.fleet_tables.specs.Kept.{IsNode}
-use Rattle.fleet_tables.specs.Owned.{IsOwn}
-use Rattle.fleet_tables.specs.Places.{InOrder, IsPlaceOf}
-use Rattle.fleet_tables.specs.Seen.{node_seen}
-use Rattle.fleet_tables.specs.Spans.{IsSpanOf}
-use Rattle.fleet_tables.specs.Wanted.{WantedTexts, has_own, is_of_node}
-use Rattle.fleet_tables.specs.declared.node.Node.{Node}
-use Rattle.fleet_tables.specs.declared.wanted.Span.{Span}
-use Rattle.fleet_tables.proofs.Counting.{before_is}
-use Rattle.fleet_tables.proofs.FoundNodes.{at_place}
+use Rattle.kept_nodes.specs.Counted.{none, count_of, limit, AreCountedFrom}
+use Rattle.fleet_tables.specs.Groups.{joined, rows_of, AreBelow, AreAbove}
+use Rattle.kept_nodes.specs.Kept.{IsNode}
+use Rattle.kept_nodes.specs.Owned.{IsOwn}
+use Rattle.kept_nodes.specs.Places.{InOrder, IsPlaceOf}
+use Rattle.kept_nodes.specs.Seen.{node_seen}
+use Rattle.kept_nodes.specs.Spans.{IsSpanOf}
+use Rattle.kept_nodes.specs.Wanted.{WantedTexts, has_own, is_of_node}
+use Rattle.kept_nodes.specs.declared.node.Node.{Node}
+use Rattle.kept_nodes.specs.declared.wanted.Span.{Span}
+use Rattle.kept_nodes.proofs.Counting.{before_is}
+use Rattle.kept_nodes.proofs.FoundNodes.{at_place}
 use Rattle.fleet_tables.proofs.JoinedNodes.{Groups, parted, taken}
-use Rattle.fleet_tables.proofs.NodePlaces.{above_first, behind_first}
-use Rattle.fleet_tables.proofs.PlaceLaws.{no_span, span_amid}
-use Rattle.fleet_tables.proofs.RowBounds.{few_part}
-use Rattle.fleet_tables.proofs.RowCounts.{total_is}
-use Rattle.fleet_tables.proofs.SoughtRows.{nodes_fail, own_span, rows_named}
+use Rattle.kept_nodes.proofs.NodePlaces.{above_first, behind_first}
+use Rattle.kept_nodes.proofs.PlaceLaws.{no_span, span_amid}
+use Rattle.kept_nodes.proofs.RowCounts.{total_is}
+use Rattle.kept_nodes.proofs.SoughtRows.{nodes_fail, own_span, rows_named}
 
 -- ---- nodes of other certnames
 

@@ -6,7 +6,7 @@ use Rattle.checkpoint_spec.specs.fleet_rows.declared.rank.Rank.{Rank}
 use Rattle.checkpoint_spec.specs.table_machine.Table.{Table}
 use Rattle.checkpoint_spec.specs.table_machine.Node.{node_inactive}
 use Rattle.checkpoint_spec.specs.table_machine.Steps.{find_node}
-use Rattle.fleet_tables.specs.Seen.{newest_rank}
+use Rattle.kept_nodes.specs.Seen.{newest_rank}
 
 -- the rank of the node's newest command of this kind; none if the table has no such node
 abbrev pub newest_in : Table → List ℕ → Kind → Option Rank

@@ -11,9 +11,9 @@ use Rattle.checkpoint_spec.specs.fleet_rows.declared.settings.Ttls.{Ttls}
 use Rattle.checkpoint_spec.specs.table_spec.Rows.{Cells}
 use Rattle.checkpoint_spec.specs.table_machine.Rows.{node_rows}
 use Rattle.checkpoint_spec.specs.table_machine.Table.{Node, node_cmp}
-use Rattle.fleet_tables.specs.declared.counts.Counts.{Counts}
-use Rattle.fleet_tables.specs.Counted.{count_of, limit, IsWithin}
-use Rattle.fleet_tables.specs.Owned.{IsOwn}
+use Rattle.kept_nodes.specs.declared.counts.Counts.{Counts}
+use Rattle.kept_nodes.specs.Counted.{count_of, limit, IsWithin}
+use Rattle.kept_nodes.specs.Owned.{IsOwn}
 
 -- the nodes of all groups in order
 abbrev pub joined : List (List Node) → List Node

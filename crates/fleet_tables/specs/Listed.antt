@@ -6,15 +6,11 @@ use Rattle.checkpoint_spec.specs.fleet_rows.declared.applied.Applied.{Applied}
 use Rattle.checkpoint_spec.specs.fleet_rows.declared.store.Mark.{Mark}
 use Rattle.checkpoint_spec.specs.fleet_rows.declared.store.StoreList.{StoreList}
 use Rattle.checkpoint_spec.specs.history_spec.Lawful.{IsChange}
-use Rattle.checkpoint_spec.specs.table_machine.Table.{Node, Table}
+use Rattle.checkpoint_spec.specs.table_machine.Table.{Table}
 
 -- sets the greatest moments of sweeps
 abbrev pub with_sweeps : Option ℤ → Option ℤ → Table → Table
 with_sweeps expire retain table = record table { expiry = expire; retention = retain }
-
--- sets the node's greatest activity
-abbrev pub with_activity : Option ℤ → Node → Node
-with_activity active node = record node { active = active }
 
 -- ---- the lists from which tables are made
 

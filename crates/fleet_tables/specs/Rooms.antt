@@ -1,61 +1,26 @@
 -- The memory and the computed values that a change needs.
-use Rattle.std.specs.Prelude.{◌≡◌, ℕ, ◌+◌, ◌<◌, ◌≤◌, List, [], ◌∷◌, length, Some, None, Option, Result, IfSome}
+use Rattle.std.specs.Prelude.{◌≡◌, ℕ, ◌+◌, ◌<◌, ◌≤◌, List, [], ◌∷◌, length, Some, None, Option}
 use Rattle.std.specs.Coded.{Coded, code_by, coded×}
 use Rattle.std.specs.Vec.{vec_capacity}
-use Rattle.std.specs.declared.alloc.Global.{Global}
-use Rattle.std.specs.declared.vec.Vec.{Vec}
 use Rattle.std.proofs.Common.{refl}
 use Rattle.checkpoint_spec.specs.fleet_rows.Change.{change_certname}
-use Rattle.checkpoint_spec.specs.fleet_rows.declared.applied.Applied.{Applied}
 use Rattle.checkpoint_spec.specs.fleet_rows.declared.change.Change.{Change}
 use Rattle.checkpoint_spec.specs.fleet_rows.declared.change.Change.TheVariants as change
 use Rattle.checkpoint_spec.specs.fleet_rows.declared.row.Entity.{Entity}
 use Rattle.checkpoint_spec.specs.fleet_rows.declared.row.Entity.TheVariants.{Factsets, Facts, Catalogs, Resources, Edges, Reports}
-use Rattle.checkpoint_spec.specs.history_spec.Report.{report_object}
 use Rattle.checkpoint_spec.specs.table_machine.Table.{Node, Table}
 use Rattle.checkpoint_spec.specs.table_machine.Steps.{empty_node, find_node}
-use Rattle.checkpoint_spec.specs.table_spec.Cells.{hash}
 use Rattle.checkpoint_spec.specs.table_spec.Rows.{Cells, factset_rows, fact_rows, catalog_rows, resource_rows, edge_rows, report_rows}
-use Rattle.row_cells.specs.Texts.{HasPrintableMoments}
-use Rattle.fleet_tables.specs.declared.kept.Report.{Report}
 use Rattle.fleet_tables.specs.declared.room.NewNode.{NewNode}
-use Rattle.fleet_tables.specs.declared.room.Derived.{Derived}
+use Rattle.kept_nodes.specs.declared.computed.Derived.{Derived}
 use Rattle.fleet_tables.specs.declared.room.Spare.{Spare}
-use Rattle.fleet_tables.specs.declared.room.Derived.TheVariants as shown
-use Rattle.fleet_tables.specs.Seen.{node_seen}
-use Rattle.fleet_tables.specs.Kept.{IsNode, IsFactsShown, IsCatalogShown}
-use Rattle.fleet_tables.specs.Counted.{limit}
-use Rattle.fleet_tables.specs.Packed.{AreListsOf}
-use Rattle.fleet_tables.specs.Places.{reports_of}
-use Rattle.fleet_tables.specs.ReportPlaces.{IsPlaceFor}
+use Rattle.kept_nodes.specs.declared.computed.Derived.TheVariants as shown
+use Rattle.kept_nodes.specs.Seen.{node_seen}
+use Rattle.kept_nodes.specs.Kept.{IsNode}
+use Rattle.kept_nodes.specs.Computed.{HasRoomFor, IsShownFor, with_reports}
+use Rattle.kept_nodes.specs.Counted.{limit}
+use Rattle.kept_nodes.specs.Places.{reports_of}
 use Rattle.checkpoint_spec.specs.table_machine.Rows.{table_rows}
-
--- whatever is computed of the change is correct
-abbrev pub IsShownOf : Derived → Change → Type 0
-IsShownOf (shown.Facts s) (change.Facts c) = IsFactsShown s c
-IsShownOf (shown.Catalog s) (change.Catalog c) = IsCatalogShown s c
-IsShownOf (shown.Report s) (change.Report r) = AreListsOf s.lists r × HasPrintableMoments r × IfSome s.hash (λ h. h ≡ hash (report_object r))
-IsShownOf shown.Nothing (change.Deactivate c) = Unit {0}
-IsShownOf shown.Nothing (change.Expiration c) = Unit {0}
-IsShownOf _ _ = ⊥
-
--- for a report, the list has room for these reports and one more, and the place among them is the report's
-abbrev pub HasRoomFor : Derived → Change → List Applied → Type 0
-HasRoomFor (shown.Report s) change reports = (s.reports.items ≡ []) × (length reports < vec_capacity s.reports) × IsPlaceFor change reports s.place
-HasRoomFor _ change reports = Unit {0}
-
--- for a report, the list is empty and has room for this many reports and one more
-abbrev pub IsListFor : Derived → Vec Report Global → ℕ → Type 0
-IsListFor (shown.Report s) list reports = (list.items ≡ []) × (reports < vec_capacity list)
-IsListFor _ list reports = Unit {0}
-
-abbrev pub IsShownFor : Derived → Change → List Applied → Type 0
-IsShownFor shown change reports = IsShownOf shown change × HasRoomFor shown change reports
-
--- the same values with this list for reports, and this place
-abbrev pub with_reports : Derived → Vec Report Global → Result ℕ ℕ → Derived
-with_reports (shown.Report s) reports place = shown.Report (record s { reports = reports; place = place })
-with_reports shown reports place = shown
 
 -- a node of which only the certname is known, and a list with room for it and for this many others
 abbrev pub IsNew : NewNode → List ℕ → ℕ → Type 0

@@ -13,23 +13,23 @@ ghost use Rattle.checkpoint_spec.specs.table_machine.Node.{node_inactive};
 ghost use Rattle.checkpoint_spec.specs.table_machine.Steps.{find_node, with_node, with_applied, with_retained};
 ghost use Rattle.checkpoint_spec.specs.table_machine.Table as machine;
 ghost use Rattle.row_cells.specs.Texts.{HasPrintableMoments};
-ghost use Rattle.fleet_tables.specs.Counted.{IsCountedBefore, IsWithin, total_from, none};
+ghost use Rattle.kept_nodes.specs.Counted.{IsCountedBefore, IsWithin, total_from, none};
 ghost use Rattle.fleet_tables.specs.Groups.{IsFilled, AreCountsOf, AreFew, rows_of, starts_above};
-ghost use Rattle.fleet_tables.specs.Kept.{IsNode};
-ghost use Rattle.fleet_tables.specs.Places.{nodes_in, seen_in, left_by_purge, InOrder, IsNodeFor, reports_of};
-ghost use Rattle.fleet_tables.specs.ReportPlaces.{IsPlaceAmong};
+ghost use Rattle.kept_nodes.specs.Kept.{IsNode};
+ghost use Rattle.kept_nodes.specs.Places.{nodes_in, seen_in, left_by_purge, InOrder, IsNodeFor, reports_of};
+ghost use Rattle.kept_nodes.specs.ReportPlaces.{IsPlaceAmong};
 ghost use Rattle.fleet_tables.specs.Rooms.{IsRoomAt, IsNewFor};
-ghost use Rattle.fleet_tables.specs.Rows.{IsRowAt};
-ghost use Rattle.fleet_tables.specs.Seen.{newest_rank};
+ghost use Rattle.kept_nodes.specs.Rows.{IsRowAt};
+ghost use Rattle.kept_nodes.specs.Seen.{newest_rank};
 
-use crate::counts::Counts;
-use crate::lists::{insert_in_room, move_into, room_for_more};
-use crate::node::Node;
-use crate::places::{count_from, node_of_row, place_of};
-use crate::room::{Derived, NewNode};
+use crate::room::NewNode;
 use fleet_rows::json_tree::Text;
 use fleet_rows::stamp_time::Moment;
 use fleet_rows::{Change, Entity, Kind, Rank, ReportChange, Row, Ttls};
+use kept_nodes::{
+    Counts, Derived, Node, count_from, insert_in_room, move_into, node_of_row, place_of,
+    room_for_more,
+};
 use std::alloc::{AllocError, Global};
 use std::marker::Model;
 
@@ -45,9 +45,9 @@ impl Model for Group {
     ghost use Rattle.std.specs.Coded.{codes, coded_list};
     ghost use Rattle.checkpoint_spec.specs.text_spec.JsonCode.{coded_json};
     ghost use Rattle.checkpoint_spec.specs.table_machine.Table.{Node};
-    ghost use Rattle.fleet_tables.specs.Seen.{coded_node};
-    ghost use Rattle.fleet_tables.specs.Kept.{AreNodes};
-    ghost use Rattle.fleet_tables.specs.Places.{nodes_in, seen_in};
+    ghost use Rattle.kept_nodes.specs.Seen.{coded_node};
+    ghost use Rattle.kept_nodes.specs.Kept.{AreNodes};
+    ghost use Rattle.kept_nodes.specs.Places.{nodes_in, seen_in};
 
     ghost Value = { List Node };
 

@@ -7,18 +7,17 @@ ghost use Rattle.checkpoint_spec.specs.stamp_time.Range.{IsStampMoment};
 ghost use Rattle.checkpoint_spec.specs.history_spec.Trace.{applied_as};
 ghost use Rattle.checkpoint_spec.specs.table_machine.Steps.{find_node, with_node, with_applied, with_retained};
 ghost use Rattle.checkpoint_spec.specs.table_machine.Table as machine;
-ghost use Rattle.fleet_tables.specs.Counted.{IsWithin};
+ghost use Rattle.kept_nodes.specs.Counted.{IsWithin};
 ghost use Rattle.fleet_tables.specs.Groups.{joined, IsFilled, AreFilledOrOne, StandInOrder, AreCountsOf, AreFew, HaveRow, IsRowOf, AreBelow, AreAbove};
-ghost use Rattle.fleet_tables.specs.Places.{left_by_purge};
+ghost use Rattle.kept_nodes.specs.Places.{left_by_purge};
 ghost use Rattle.fleet_tables.specs.Rooms.{IsRoomAt, IsFirstFor};
 
-use crate::counts::Counts;
 use crate::group::Group;
-use crate::lists::{insert_in_room, room_for_more};
-use crate::room::{Derived, NewNode};
+use crate::room::NewNode;
 use fleet_rows::json_tree::Text;
 use fleet_rows::stamp_time::Moment;
 use fleet_rows::{Change, Entity, Ttls};
+use kept_nodes::{Counts, Derived, insert_in_room, room_for_more};
 use std::alloc::{AllocError, Global};
 
 // The number of nodes at which a group is split before it is changed.

@@ -12,34 +12,28 @@
 //! the change that it was made for, and `Prepared` as its change. In `specs/`:
 //!
 //! - `Stands.antt`: the history that tables stand for.
-//! - `Asked.antt`: look-ups by certname. `Rows.antt`: rows by index. `Wanted.antt`: rows by the names that they show, and
-//!   `Spans.antt` their places. `Runs.antt` has the places within one node.
+//! - `Asked.antt`: look-ups by certname.
 //! - `Listed.antt`: the lists that `from_list` takes.
-//! - `Kept.antt`: what is stored besides the value (hashes, orders and numbers of rows). `Groups.antt`: how nodes are grouped.
-//!   `Owned.antt`: the commands of a node name it.
+//! - `Groups.antt`: how nodes are grouped. `Rooms.antt`: the memory that a change needs.
 //!
-//! Memory is taken only by `Prepared::of`, the two calls that make room, the two that prepare, `row`, `snapshot`, `from_list` and
-//! `mark`. The stored data is in `State`, which holds no allocator except those of its lists; only these calls hand it one.
+//! What is kept of one node stands in `kept_nodes`, with the words for rows by index, for the sought rows and for their places.
 //!
-//! A row shows hashes, and the orders of facts, resources and edges decide its index. Both depend only on the command and are
-//! stored in parts, each present or absent (`FactsShown`, `CatalogShown`). `Prepared::of` computes all parts without the tables.
-//! `reserve_prepared` computes nothing, and `reserve` only packs a report. `prepare` computes the parts of an entity for all nodes.
-//! Otherwise `row` computes them for its row.
+//! Memory is taken only by `Prepared::of`, the two calls that make room, the two that prepare, `row`, `seek`, `snapshot`,
+//! `from_list` and `mark`. The stored data is in `State`, which holds no allocator except those of its lists; only these calls hand
+//! it one.
 //!
-//! A report's lists are kept as their compact texts (`PackedReport`), since they are most of what tables hold, and a tree of them
-//! takes three times as much. Rows of `reports` unpack one report each; rows of `nodes` need no list. Reports of a node stand by
-//! timestamp, then by canonical text. No text is kept: `reserve` finds the report's place, and makes texts only of reports with
-//! the same timestamp.
+//! A row shows hashes and has its place by an order (`kept_nodes`). `Prepared::of` computes both without the tables.
+//! `reserve_prepared` computes nothing, and `reserve` only packs a report. `prepare` computes them for all nodes. Otherwise `row`
+//! computes what its row needs.
 //!
 //! Nodes are stored in groups of neighbours (`Group`). `reserve` splits a group of 256 nodes or more before a node in it is added
 //! or changed. So a command needs one binary search, moves and recounts the nodes of one group at most, and adjusts the total. A
 //! row look-up scans the groups before the row, then searches its group. A purge drops empty groups but doesn't merge small ones.
 //! The room for a new node has a list for twice the number of all nodes, at 8 bytes each, since no contract says how full the
-//! node's group is. Each report has its own allocation, so inserting a report moves 8 bytes for each later one.
+//! node's group is.
 //!
 //! Look-ups read no row and take no memory but for the list of `seek`. A certname is found by two binary searches, and its rows
-//! are neighbours. Within a node, the orders of its facts and resources serve as the index. Where an order isn't computed, all
-//! names of the node are compared.
+//! are neighbours. Within a node, the orders of its facts and resources serve as the index.
 //!
 //! Clauses and costs of the calls:
 //! - `reserve`, `reserve_prepared` and `into_prepared` leave the tables (`same`). Without memory `reserve_prepared` hands the
@@ -55,39 +49,26 @@
 //!   `mark` leaves the tables. At 2^62 nodes it refuses known nodes too.
 #![tactic(auto)]
 
-mod apply;
-mod counts;
 mod group;
 mod groups;
-mod kept;
 mod listed;
-mod lists;
 mod lookups;
 mod marks;
-mod node;
-mod packed;
-mod places;
 mod preparing;
-mod reports;
 mod room;
-mod rows;
-mod runs;
 mod seek;
-mod shown;
 mod snapshot;
 mod spans;
 mod state;
 mod steps;
 mod tables;
-mod times;
-mod wanted;
 
 pub use lookups::Places;
 pub use room::{Prepared, Room};
 pub use steps::Steps;
 pub use tables::Tables;
-pub use wanted::{Span, Wanted, WantedResource};
 
 // Re-exports for the crates above.
 pub use fleet_rows;
 pub use fleet_rows::stamp_time;
+pub use kept_nodes::{Span, Wanted, WantedResource};

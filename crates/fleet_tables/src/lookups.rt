@@ -7,14 +7,14 @@ ghost use Rattle.checkpoint_spec.specs.history_spec.Trace.{Trace};
 ghost use Rattle.checkpoint_spec.specs.table_machine.Rows.{table_rows};
 ghost use Rattle.checkpoint_spec.specs.table_spec.Rows.{rows};
 ghost use Rattle.fleet_tables.specs.Stands.{Stands};
-ghost use Rattle.fleet_tables.specs.Spans.{places_of};
-ghost use Rattle.fleet_tables.specs.Wanted.{has_own, is_fact, is_wanted, of_certname, of_name, of_resource, texts_of};
+ghost use Rattle.kept_nodes.specs.Spans.{places_of};
+ghost use Rattle.kept_nodes.specs.Wanted.{has_own, is_fact, is_wanted, of_certname, of_name, of_resource, texts_of};
 
 use crate::state::State;
 use crate::tables::Tables;
-use crate::wanted::{Span, Wanted, WantedResource};
 use fleet_rows::Entity;
 use fleet_rows::json_tree::Text;
+use kept_nodes::{Span, Wanted, WantedResource};
 use std::alloc::{AllocError, Global};
 use std::marker::Model;
 
@@ -31,8 +31,8 @@ impl<'t> Model for Places<'t> {
     ghost use Rattle.std.specs.Prelude.{ℕ, List};
     ghost use Rattle.std.specs.Coded.{coded_list, coded_ℕ};
     ghost use Rattle.checkpoint_spec.specs.table_machine.Rows.{table_rows};
-    ghost use Rattle.fleet_tables.specs.Spans.{places_of};
-    ghost use Rattle.fleet_tables.specs.Wanted.{has_own, texts_of};
+    ghost use Rattle.kept_nodes.specs.Spans.{places_of};
+    ghost use Rattle.kept_nodes.specs.Wanted.{has_own, texts_of};
 
     ghost Value = { List ℕ };
 

@@ -4,17 +4,16 @@ ghost use Rattle.std.specs.List.{AllByRecursion};
 ghost use Rattle.checkpoint_spec.specs.fleet_rows.declared.settings.Ttls.{Ttls};
 ghost use Rattle.checkpoint_spec.specs.table_machine.Rows.{table_rows};
 ghost use Rattle.fleet_tables.specs.Groups.{joined, rows_of, AreFew};
-ghost use Rattle.fleet_tables.specs.Kept.{IsNode};
-ghost use Rattle.fleet_tables.specs.Places.{nodes_in, seen_in};
-ghost use Rattle.fleet_tables.specs.Runs.{number};
-ghost use Rattle.fleet_tables.specs.Spans.{neighbours, places_from, places_of, IsNthPlace};
-ghost use Rattle.fleet_tables.specs.Wanted.{has_own, is_wanted, texts_of};
+ghost use Rattle.kept_nodes.specs.Kept.{IsNode};
+ghost use Rattle.kept_nodes.specs.Places.{nodes_in, seen_in};
+ghost use Rattle.kept_nodes.specs.Runs.{number};
+ghost use Rattle.kept_nodes.specs.Spans.{neighbours, places_from, places_of, IsNthPlace};
+ghost use Rattle.kept_nodes.specs.Wanted.{has_own, is_wanted, texts_of};
 
 use crate::group::Group;
-use crate::node::Node;
 use crate::state::State;
-use crate::wanted::{Span, Wanted};
 use fleet_rows::Entity;
+use kept_nodes::{Node, Span, Wanted};
 use std::alloc::{AllocError, Global};
 
 // Appends neighbouring places.

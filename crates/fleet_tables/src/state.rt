@@ -10,22 +10,20 @@ ghost use Rattle.checkpoint_spec.specs.table_machine.Steps.{empty_table, apply, 
 ghost use Rattle.checkpoint_spec.specs.table_machine.Table as machine;
 ghost use Rattle.row_cells.specs.Texts.{HasPrintableMoments};
 ghost use Rattle.fleet_tables.specs.Asked.{newest_in, is_inactive_in};
-ghost use Rattle.fleet_tables.specs.Counted.{IsWithin, plus, counts_changed};
-ghost use Rattle.fleet_tables.specs.Places.{reports_of};
-ghost use Rattle.fleet_tables.specs.ReportPlaces.{IsPlaceAmong, IsPlaceFor};
-ghost use Rattle.fleet_tables.specs.Rooms.{room_for, IsShownOf, IsSpare, IsNew, IsNewFor};
-ghost use Rattle.fleet_tables.specs.Rows.{IsRowAt};
+ghost use Rattle.kept_nodes.specs.Counted.{IsWithin, plus, counts_changed};
+ghost use Rattle.kept_nodes.specs.Places.{reports_of};
+ghost use Rattle.kept_nodes.specs.ReportPlaces.{IsPlaceAmong, IsPlaceFor};
+ghost use Rattle.kept_nodes.specs.Computed.{IsShownOf};
+ghost use Rattle.fleet_tables.specs.Rooms.{room_for, IsSpare, IsNew, IsNewFor};
+ghost use Rattle.kept_nodes.specs.Rows.{IsRowAt};
 
-use crate::apply::later;
-use crate::counts::Counts;
 use crate::group::Group;
 use crate::groups;
-use crate::lists::room_for_more;
-use crate::node::Node;
-use crate::room::{Derived, NewNode, Room, Spare, room_for_reports};
+use crate::room::{NewNode, Room, Spare};
 use fleet_rows::json_tree::Text;
 use fleet_rows::stamp_time::Moment;
 use fleet_rows::{Change, Entity, Kind, Rank, ReportChange, Row, Ttls};
+use kept_nodes::{Counts, Derived, Node, later, room_for_more, room_for_reports};
 use std::alloc::{AllocError, Global};
 use std::marker::Model;
 use std::snapshot::Snapshot;
@@ -47,7 +45,7 @@ impl Model for State {
     ghost use Rattle.std.proofs.Props.{props};
     ghost use Rattle.checkpoint_spec.specs.text_spec.JsonCode.{coded_json};
     ghost use Rattle.checkpoint_spec.specs.table_machine.Table.{Table};
-    ghost use Rattle.fleet_tables.specs.Seen.{coded_table};
+    ghost use Rattle.kept_nodes.specs.Seen.{coded_table};
     ghost use Rattle.fleet_tables.specs.Groups.{joined, AreKept};
 
     ghost Value = { Table };

@@ -8,16 +8,18 @@ ghost use Rattle.checkpoint_spec.specs.table_machine.Rows.{table_rows};
 ghost use Rattle.checkpoint_spec.specs.table_machine.Steps.{empty_table, apply, expire, purge, retain};
 ghost use Rattle.checkpoint_spec.specs.table_spec.Rows.{rows};
 ghost use Rattle.fleet_tables.specs.Asked.{newest_in, is_inactive_in};
-ghost use Rattle.fleet_tables.specs.Rooms.{room_for, IsShownOf};
-ghost use Rattle.fleet_tables.specs.Rows.{IsRowAt};
+ghost use Rattle.kept_nodes.specs.Computed.{IsShownOf};
+ghost use Rattle.fleet_tables.specs.Rooms.{room_for};
+ghost use Rattle.kept_nodes.specs.Rows.{IsRowAt};
 ghost use Rattle.fleet_tables.specs.Stands.{Stands, expire_alone, purge_alone, reports_alone, newest_of};
 
-use crate::room::{Derived, Prepared, Room, needed_by};
+use crate::room::{Prepared, Room};
 use crate::state::State;
 use crate::steps::Steps;
 use fleet_rows::json_tree::Text;
 use fleet_rows::stamp_time::Moment;
 use fleet_rows::{Change, Entity, Kind, Rank, Row, Ttls};
+use kept_nodes::{Derived, needed_by};
 use std::alloc::{AllocError, Global};
 use std::marker::Model;
 use std::sync::ledger::Ledger;
@@ -34,7 +36,7 @@ impl Model for Tables {
     ghost use Rattle.std.proofs.Props.{props};
     ghost use Rattle.checkpoint_spec.specs.text_spec.JsonCode.{coded_json};
     ghost use Rattle.checkpoint_spec.specs.table_machine.Table.{Table};
-    ghost use Rattle.fleet_tables.specs.Seen.{coded_table};
+    ghost use Rattle.kept_nodes.specs.Seen.{coded_table};
 
     ghost Value = { Table };
 

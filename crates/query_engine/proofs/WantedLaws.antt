@@ -4,8 +4,8 @@ use Rattle.std.specs.Prelude.{codes}
 use Rattle.std.specs.Borrow.{Bor}
 use Rattle.std.specs.List.{AllByRecursion}
 use Rattle.fleet_tables.specs.Wanted.{has_own, is_wanted, texts_of, text_in}
-use Rattle.fleet_tables.specs.declared.wanted.Wanted.{Wanted}
-use Rattle.fleet_tables.specs.declared.wanted.WantedResource.{WantedResource}
+use Rattle.fleet_tables.specs.kept_nodes.declared.wanted.Wanted.{Wanted}
+use Rattle.fleet_tables.specs.kept_nodes.declared.wanted.WantedResource.{WantedResource}
 use Rattle.fleet_tables.specs.fleet_rows.Cell.{CellValue, plain}
 use Rattle.fleet_tables.specs.fleet_rows.declared.row.Entity.{Entity}
 use Rattle.fleet_tables.specs.fleet_rows.declared.row.Entity.TheVariants.{Facts, Resources}

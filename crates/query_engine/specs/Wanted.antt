@@ -2,7 +2,7 @@
 use Rattle.std.specs.Prelude.{◌≡◌, ℕ, List, [], false, Option, Some, None}
 use Rattle.std.specs.List.{AllByRecursion}
 use Rattle.fleet_tables.specs.Wanted.{has_own, is_wanted, texts_of}
-use Rattle.fleet_tables.specs.declared.wanted.Wanted.{Wanted}
+use Rattle.fleet_tables.specs.kept_nodes.declared.wanted.Wanted.{Wanted}
 use Rattle.fleet_tables.specs.fleet_rows.declared.row.Entity.{Entity}
 use Rattle.fleet_tables.specs.table_machine.Rows.{table_rows}
 use Rattle.fleet_tables.specs.table_machine.Table.{Table}

@@ -8,14 +8,14 @@ use Rattle.checkpoint_spec.specs.fleet_rows.Change.{change_certname}
 use Rattle.checkpoint_spec.specs.fleet_rows.declared.applied.Applied.{Applied}
 use Rattle.checkpoint_spec.specs.history_spec.Trace.{applied_as}
 use Rattle.checkpoint_spec.specs.table_machine.Steps.{find_node, with_node, with_applied}
-use Rattle.fleet_tables.specs.Counted.{IsCountedBefore, counts, numbers}
-use Rattle.fleet_tables.specs.Places.{Boxes, nodes_in, seen_in, reports_of}
-use Rattle.fleet_tables.specs.Rooms.{IsShownFor}
-use Rattle.fleet_tables.specs.Seen.{node_seen, report_seen}
-use Rattle.fleet_tables.specs.declared.node.Node.{Node}
-use Rattle.fleet_tables.proofs.Counting.{counted_before, numbers_kept}
-use Rattle.fleet_tables.proofs.FoundNodes.{box_kept}
-use Rattle.fleet_tables.proofs.PutNodes.{seen_there, seen_changed, kept_changed, is_none}
+use Rattle.kept_nodes.specs.Counted.{IsCountedBefore, counts, numbers}
+use Rattle.kept_nodes.specs.Places.{Boxes, nodes_in, seen_in, reports_of}
+use Rattle.kept_nodes.specs.Computed.{IsShownFor}
+use Rattle.kept_nodes.specs.Seen.{node_seen, report_seen}
+use Rattle.kept_nodes.specs.declared.node.Node.{Node}
+use Rattle.kept_nodes.proofs.Counting.{counted_before, numbers_kept}
+use Rattle.kept_nodes.proofs.FoundNodes.{box_kept}
+use Rattle.kept_nodes.proofs.PutNodes.{seen_there, seen_changed, kept_changed, is_none}
 use Rattle.fleet_tables.proofs.group.apply_change.Goals as goal
 use Rattle.fleet_tables.proofs.group.apply_change.Goals.{then-came, else-came}
 

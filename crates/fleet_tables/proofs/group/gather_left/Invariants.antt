@@ -1,7 +1,7 @@
 use Rattle.std.proofs.Common.{◌≡◌, ◌≤◌, ◌++◌, take, drop}
 use Rattle.std.specs.List.{AllByRecursion}
-use Rattle.fleet_tables.specs.Kept.{IsNode}
-use Rattle.fleet_tables.specs.Places.{nodes_in, seen_in, left_by_purge}
+use Rattle.kept_nodes.specs.Kept.{IsNode}
+use Rattle.kept_nodes.specs.Places.{nodes_in, seen_in, left_by_purge}
 use Rattle.fleet_tables.proofs.group.gather_left.Given as goal
 
 -- what stays of the nodes so far, and what of the rest

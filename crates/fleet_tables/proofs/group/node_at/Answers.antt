@@ -3,12 +3,13 @@ use Rattle.std.specs.List.{insert, AllByRecursion}
 use Rattle.std.specs.declared.alloc.Global.{Global}
 use Rattle.std.specs.declared.boxed.Box.{Box}
 use Rattle.checkpoint_spec.specs.table_machine.Steps.{find_node}
-use Rattle.fleet_tables.specs.Kept.{IsNode}
-use Rattle.fleet_tables.specs.Places.{nodes_in, seen_in, IsPlaceOf, IsNodeFor}
-use Rattle.fleet_tables.specs.Seen.{node_seen}
-use Rattle.fleet_tables.specs.declared.node.Node.{Node}
-use Rattle.fleet_tables.proofs.FoundNodes.{moved, place_absent}
-use Rattle.fleet_tables.proofs.PutNodes.{node_there, node_put, new_for, has_new, map-insert, take-insert, all-insert}
+use Rattle.kept_nodes.specs.Kept.{IsNode}
+use Rattle.kept_nodes.specs.Places.{nodes_in, seen_in, IsPlaceOf, IsNodeFor}
+use Rattle.kept_nodes.specs.Seen.{node_seen}
+use Rattle.kept_nodes.specs.declared.node.Node.{Node}
+use Rattle.kept_nodes.proofs.FoundNodes.{moved, place_absent}
+use Rattle.kept_nodes.proofs.PutNodes.{node_there, node_put, map-insert, take-insert, all-insert}
+use Rattle.fleet_tables.proofs.GroupRooms.{new_for, has_new}
 use Rattle.fleet_tables.proofs.group.node_at.Goals as goal
 
 pub unreachable-requires : goal.unreachable-requires

@@ -4,10 +4,10 @@ use Rattle.std.proofs.Math.ListN.{set}
 use Rattle.std.proofs.lemmas.List.{length-map}
 use Rattle.std.proofs.lemmas.List.Edits.{map_over_more}
 use Rattle.checkpoint_spec.specs.table_machine.Steps.{with_retained}
-use Rattle.fleet_tables.specs.Places.{seen_in, nodes_in}
-use Rattle.fleet_tables.specs.Seen.{node_seen}
-use Rattle.fleet_tables.proofs.FoundNodes.{box_kept}
-use Rattle.fleet_tables.proofs.PutNodes.{seen_at, seen_changed, kept_changed}
+use Rattle.kept_nodes.specs.Places.{seen_in, nodes_in}
+use Rattle.kept_nodes.specs.Seen.{node_seen}
+use Rattle.kept_nodes.proofs.FoundNodes.{box_kept}
+use Rattle.kept_nodes.proofs.PutNodes.{seen_at, seen_changed, kept_changed}
 use Rattle.fleet_tables.proofs.group.retain_each.Goals as goal
 
 pub retain-requires-clause-kept : goal.retain-requires-clause-kept

@@ -1,8 +1,8 @@
 use Rattle.std.proofs.Common.{◌≡◌, ◌++◌, take, drop, map}
 use Rattle.std.specs.List.{AllByRecursion}
 use Rattle.checkpoint_spec.specs.table_machine.Steps.{with_retained}
-use Rattle.fleet_tables.specs.Kept.{IsNode}
-use Rattle.fleet_tables.specs.Places.{nodes_in, seen_in}
+use Rattle.kept_nodes.specs.Kept.{IsNode}
+use Rattle.kept_nodes.specs.Places.{nodes_in, seen_in}
 use Rattle.fleet_tables.proofs.group.retain_each.Given as goal
 
 abbrev pub invariant-sweeping : goal.invariant-sweeping

@@ -1,7 +1,7 @@
 use Rattle.std.proofs.Common.{◌∙◌, ◌<◌, length, sym, ap, arith}
 use Rattle.std.proofs.Math.ListN.{set}
 use Rattle.std.proofs.lemmas.List.Edits.{map_over_more}
-use Rattle.fleet_tables.specs.Places.{left_by_purge}
+use Rattle.kept_nodes.specs.Places.{left_by_purge}
 use Rattle.fleet_tables.proofs.groups.purge_each.Goals as goal
 
 pub sweeping-preserved : goal.sweeping-preserved

@@ -1,5 +1,5 @@
 use Rattle.std.proofs.Common.{◌≡◌, ◌++◌, take, drop, map}
-use Rattle.fleet_tables.specs.Places.{left_by_purge}
+use Rattle.kept_nodes.specs.Places.{left_by_purge}
 use Rattle.fleet_tables.proofs.groups.purge_each.Given as goal
 
 abbrev pub invariant-sweeping : goal.invariant-sweeping

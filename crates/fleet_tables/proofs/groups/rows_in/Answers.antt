@@ -1,7 +1,7 @@
 use Rattle.std.proofs.Common.{◌+◌, ◌<◌, length, take, refl, sym, ap, subst, arith}
 use Rattle.std.proofs.lemmas.List.{take_all}
 use Rattle.std.proofs.lemmas.Option.{slice_get_read}
-use Rattle.fleet_tables.specs.Counted.{IsWithin}
+use Rattle.kept_nodes.specs.Counted.{IsWithin}
 use Rattle.fleet_tables.specs.Groups.{joined, AreCountsOf}
 use Rattle.fleet_tables.proofs.GroupRows.{counted_more, within_more}
 use Rattle.fleet_tables.proofs.groups.rows_in.Goals as goal

@@ -1,6 +1,6 @@
 use Rattle.std.proofs.Common.{take}
 use Rattle.fleet_tables.specs.Groups.{joined, AreCountsOf}
-use Rattle.fleet_tables.specs.Counted.{IsWithin}
+use Rattle.kept_nodes.specs.Counted.{IsWithin}
 use Rattle.fleet_tables.proofs.groups.rows_in.Given as goal
 
 abbrev pub invariant-adding : goal.invariant-adding

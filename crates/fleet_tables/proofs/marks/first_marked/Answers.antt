@@ -1,6 +1,6 @@
 use Rattle.std.proofs.Common.{sym, subst}
 use Rattle.checkpoint_spec.specs.table_machine.Steps.{with_node}
-use Rattle.fleet_tables.specs.Listed.{with_activity}
+use Rattle.kept_nodes.specs.Seen.{with_activity}
 use Rattle.fleet_tables.specs.Groups.{AreFew}
 use Rattle.fleet_tables.proofs.MarkLaws.{first_few}
 use Rattle.fleet_tables.proofs.marks.first_marked.Goals as goal

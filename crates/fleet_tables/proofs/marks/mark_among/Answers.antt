@@ -2,7 +2,7 @@ use Rattle.std.proofs.Common.{◌∙◌, ℕ, ◌+◌, ◌<◌, List, length, ta
 use Rattle.std.proofs.Math.ListN.{set}
 use Rattle.std.proofs.lemmas.List.{set-get_or}
 use Rattle.std.proofs.lemmas.Option.{slice_get_read}
-use Rattle.fleet_tables.specs.Listed.{with_activity}
+use Rattle.kept_nodes.specs.Seen.{with_activity}
 use Rattle.fleet_tables.specs.Groups.{joined, IsFilled, AreFilledOrOne, AreBelow, AreAbove, AreCountsOf, AreFew}
 use Rattle.fleet_tables.proofs.GroupRows.{is_part, counted_anew, within_anew}
 use Rattle.fleet_tables.proofs.JoinedNodes.{Groups, put_in, put_filled, filled_set, filled_or_one}

@@ -1,7 +1,7 @@
 use Rattle.std.proofs.Common.{◌∙◌, [], ◌∷◌, ◌++◌, sym, ap, subst, append-nil}
 use Rattle.std.specs.List.{AllByRecursion}
 use Rattle.checkpoint_spec.specs.table_machine.Steps.{with_node}
-use Rattle.fleet_tables.specs.Listed.{with_activity}
+use Rattle.kept_nodes.specs.Seen.{with_activity}
 use Rattle.fleet_tables.specs.Groups.{joined, IsFilled, AreCountsOf, AreFew}
 use Rattle.fleet_tables.proofs.JoinedNodes.{Groups, put_filled}
 use Rattle.fleet_tables.proofs.MarkLaws.{first_few}

@@ -1,12 +1,10 @@
-use Rattle.std.proofs.Common.{◌≡◌, ◌∙◌, ◌+◌, ◌<◌, ◌≤◌, ◌++◌, ℕ, List, length, drop, None, refl, sym, ap, subst, arith}
+use Rattle.std.proofs.Common.{◌+◌, ◌<◌, length, drop, None, refl, ap, arith}
 use Rattle.std.proofs.lemmas.Option.{slice_get_read}
 use Rattle.checkpoint_spec.specs.fleet_rows.Defaults.{default_ttls}
-use Rattle.fleet_tables.specs.Counted.{limit}
 use Rattle.fleet_tables.specs.Groups.{joined, rows_of}
-use Rattle.fleet_tables.specs.Runs.{number}
-use Rattle.fleet_tables.specs.Spans.{places_from}
-use Rattle.fleet_tables.specs.Wanted.{has_own, texts_of}
-use Rattle.fleet_tables.proofs.RunLaws.{at_most_all}
+use Rattle.kept_nodes.specs.Runs.{number}
+use Rattle.kept_nodes.specs.Wanted.{has_own, texts_of}
+use Rattle.kept_nodes.proofs.RunLaws.{at_most_all}
 use Rattle.fleet_tables.proofs.SeekLaws.{all_counted, count_fits, count_step, none_left_joined, rows_left_joined}
 use Rattle.fleet_tables.proofs.SpanNodes.{group_in_few}
 use Rattle.fleet_tables.proofs.seek.count_groups.Goals as goal

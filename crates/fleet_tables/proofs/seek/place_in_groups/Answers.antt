@@ -1,11 +1,10 @@
-use Rattle.std.proofs.Common.{◌≡◌, ◌∙◌, ◌+◌, ◌-◌, ◌<◌, ◌≤◌, ◌++◌, ℕ, List, length, drop, slice_get, Some, None, refl, sym, ap, subst, arith}
+use Rattle.std.proofs.Common.{◌∙◌, ◌+◌, ◌-◌, ◌<◌, length, drop, slice_get, None, refl, ap, arith}
 use Rattle.std.proofs.lemmas.Option.{slice_get_read}
 use Rattle.checkpoint_spec.specs.fleet_rows.Defaults.{default_ttls}
-use Rattle.fleet_tables.specs.Counted.{limit}
 use Rattle.fleet_tables.specs.Groups.{joined, rows_of}
-use Rattle.fleet_tables.specs.Runs.{number}
-use Rattle.fleet_tables.specs.Spans.{places_from}
-use Rattle.fleet_tables.specs.Wanted.{has_own, texts_of}
+use Rattle.kept_nodes.specs.Runs.{number}
+use Rattle.kept_nodes.specs.Spans.{places_from}
+use Rattle.kept_nodes.specs.Wanted.{has_own, texts_of}
 use Rattle.fleet_tables.proofs.SeekLaws.{all_passed, behind_step, fits_step, here_step, left_step, long_step, none_left_joined, rows_left_joined}
 use Rattle.fleet_tables.proofs.seek.place_in_groups.Goals as goal
 

@@ -1,10 +1,10 @@
 use Rattle.std.proofs.Common.{◌≡◌, ◌+◌, ℤ, length, drop, slice_get, Option}
 use Rattle.checkpoint_spec.specs.fleet_rows.declared.settings.Ttls.{Ttls}
 use Rattle.fleet_tables.specs.Groups.{rows_of}
-use Rattle.fleet_tables.specs.Places.{seen_in}
-use Rattle.fleet_tables.specs.Runs.{number}
-use Rattle.fleet_tables.specs.Spans.{places_from}
-use Rattle.fleet_tables.specs.Wanted.{has_own, texts_of}
+use Rattle.kept_nodes.specs.Places.{seen_in}
+use Rattle.kept_nodes.specs.Runs.{number}
+use Rattle.kept_nodes.specs.Spans.{places_from}
+use Rattle.kept_nodes.specs.Wanted.{has_own, texts_of}
 use Rattle.fleet_tables.proofs.seek.place_in_nodes.Given as goal
 
 abbrev pub invariant-walking : goal.invariant-walking

@@ -1,11 +1,9 @@
-use Rattle.std.proofs.Common.{◌≡◌, ◌∙◌, ◌+◌, ◌<◌, ◌≤◌, ◌++◌, ℕ, List, length, drop, None, refl, sym, ap, subst, arith}
+use Rattle.std.proofs.Common.{◌+◌, ◌<◌, ◌++◌, length, drop, None, refl, ap, arith}
 use Rattle.std.proofs.lemmas.Option.{slice_get_read}
 use Rattle.checkpoint_spec.specs.fleet_rows.Defaults.{default_ttls}
-use Rattle.fleet_tables.specs.Counted.{limit}
 use Rattle.fleet_tables.specs.Groups.{joined, rows_of}
-use Rattle.fleet_tables.specs.Runs.{number}
-use Rattle.fleet_tables.specs.Spans.{places_from}
-use Rattle.fleet_tables.specs.Wanted.{has_own, texts_of}
+use Rattle.kept_nodes.specs.Spans.{places_from}
+use Rattle.kept_nodes.specs.Wanted.{has_own, texts_of}
 use Rattle.fleet_tables.proofs.SeekLaws.{all_pushed, fits_step, long_step, none_left_joined, push_step, rows_left_joined}
 use Rattle.fleet_tables.proofs.seek.push_groups.Goals as goal
 

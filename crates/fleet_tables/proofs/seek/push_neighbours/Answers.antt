@@ -1,5 +1,5 @@
-use Rattle.std.proofs.Common.{◌≡◌, ◌∙◌, ◌+◌, ◌-◌, ◌<◌, ◌≤◌, ◌++◌, List, [], ◌∷◌, sym, ap, arith}
-use Rattle.fleet_tables.specs.Spans.{neighbours}
+use Rattle.std.proofs.Common.{◌≡◌, ◌∙◌, ◌+◌, ◌-◌, ◌++◌, ap, arith}
+use Rattle.kept_nodes.specs.Spans.{neighbours}
 use Rattle.fleet_tables.proofs.SeekLaws.{next_neighbour, no_neighbour}
 use Rattle.fleet_tables.proofs.seek.push_neighbours.Goals as goal
 

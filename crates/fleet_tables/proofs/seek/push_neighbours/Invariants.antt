@@ -1,5 +1,5 @@
 use Rattle.std.proofs.Common.{◌≡◌, ◌++◌, ◌+◌, ◌-◌}
-use Rattle.fleet_tables.specs.Spans.{neighbours}
+use Rattle.kept_nodes.specs.Spans.{neighbours}
 use Rattle.fleet_tables.proofs.seek.push_neighbours.Given as goal
 
 abbrev pub invariant-pushing : goal.invariant-pushing

@@ -1,14 +1,13 @@
-use Rattle.std.proofs.Common.{◌≡◌, ◌∙◌, ◌+◌, ◌<◌, ◌≤◌, ◌++◌, ℕ, List, length, drop, None, sym, ap, subst, arith}
+use Rattle.std.proofs.Common.{◌≡◌, ◌∙◌, ◌+◌, ◌<◌, ◌++◌, length, drop, None, sym, ap, arith}
 use Rattle.checkpoint_spec.specs.fleet_rows.Defaults.{default_ttls}
 use Rattle.checkpoint_spec.specs.table_machine.Rows.{node_rows}
 use Rattle.fleet_tables.specs.Groups.{rows_of}
-use Rattle.fleet_tables.specs.Places.{seen_in}
-use Rattle.fleet_tables.specs.Runs.{number}
-use Rattle.fleet_tables.specs.Seen.{node_seen}
-use Rattle.fleet_tables.specs.Spans.{places_from}
-use Rattle.fleet_tables.specs.Wanted.{has_own, texts_of}
-use Rattle.fleet_tables.specs.declared.node.Node.{Node}
-use Rattle.fleet_tables.proofs.FoundNodes.{box_kept}
+use Rattle.kept_nodes.specs.Places.{seen_in}
+use Rattle.kept_nodes.specs.Seen.{node_seen}
+use Rattle.kept_nodes.specs.Spans.{places_from}
+use Rattle.kept_nodes.specs.Wanted.{has_own, texts_of}
+use Rattle.kept_nodes.specs.declared.node.Node.{Node}
+use Rattle.kept_nodes.proofs.FoundNodes.{box_kept}
 use Rattle.fleet_tables.proofs.SeekLaws.{all_pushed, fits_step, long_step, none_left, push_step, rows_left, span_pushed}
 use Rattle.fleet_tables.proofs.seek.push_nodes.Goals as goal
 

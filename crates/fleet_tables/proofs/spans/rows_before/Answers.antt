@@ -1,7 +1,6 @@
-use Rattle.std.proofs.Common.{◌≡◌, ◌∙◌, ◌+◌, ◌<◌, ◌≤◌, length, take, None, refl, ap, arith}
+use Rattle.std.proofs.Common.{◌≡◌, ◌∙◌, ◌<◌, length, take, None, refl, ap, arith}
 use Rattle.std.proofs.lemmas.Option.{slice_get_read}
 use Rattle.checkpoint_spec.specs.fleet_rows.Defaults.{default_ttls}
-use Rattle.fleet_tables.specs.Counted.{limit}
 use Rattle.fleet_tables.specs.Groups.{joined, rows_of}
 use Rattle.fleet_tables.proofs.SpanNodes.{one_group_more, one_group_fits}
 use Rattle.fleet_tables.proofs.spans.rows_before.Goals as goal

@@ -1,10 +1,7 @@
-use Rattle.std.proofs.Common.{◌≡◌, ◌∙◌, ◌+◌, ◌<◌, ◌≤◌, ℕ, true, nat_eq, [], length, take, slice_get, None, refl, sym, ap, subst, arith}
+use Rattle.std.proofs.Common.{◌≡◌, ◌∙◌, ◌+◌, ℕ, true, nat_eq, length, None, refl, sym, ap, arith}
 use Rattle.std.proofs.lemmas.Option.{slice_get_read}
 use Rattle.checkpoint_spec.specs.fleet_rows.Defaults.{default_ttls}
-use Rattle.fleet_tables.specs.Counted.{limit}
-use Rattle.fleet_tables.specs.Groups.{joined, rows_of, AreFew}
-use Rattle.fleet_tables.specs.Wanted.{is_of_node, texts_of}
-use Rattle.fleet_tables.proofs.JoinedNodes.{Groups}
+use Rattle.kept_nodes.specs.Wanted.{is_of_node, texts_of}
 use Rattle.fleet_tables.proofs.SpanNodes.{group_fits, group_own, group_span_at, no_group_span}
 use Rattle.fleet_tables.proofs.spans.span_among.Goals as goal
 

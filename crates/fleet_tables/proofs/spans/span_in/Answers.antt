@@ -1,15 +1,15 @@
-use Rattle.std.proofs.Common.{◌≡◌, ◌∙◌, ◌+◌, ◌<◌, ◌≤◌, ℕ, length, slice_get, None, Some, sym, ap, subst, arith}
+use Rattle.std.proofs.Common.{◌∙◌, ◌+◌, ◌<◌, length, None, ap, subst, arith}
 use Rattle.std.proofs.lemmas.List.{length-map}
 use Rattle.checkpoint_spec.specs.fleet_rows.Defaults.{default_ttls}
 use Rattle.checkpoint_spec.specs.table_machine.Rows.{node_rows}
-use Rattle.fleet_tables.specs.Counted.{count_of, limit}
-use Rattle.fleet_tables.specs.Places.{nodes_in}
-use Rattle.fleet_tables.specs.Seen.{node_seen}
-use Rattle.fleet_tables.specs.Spans.{IsSpanOf}
-use Rattle.fleet_tables.specs.Wanted.{has_own, texts_of}
-use Rattle.fleet_tables.specs.declared.node.Node.{Node}
-use Rattle.fleet_tables.proofs.FoundNodes.{box_kept}
-use Rattle.fleet_tables.proofs.NodePlaces.{box_there}
+use Rattle.kept_nodes.specs.Counted.{count_of}
+use Rattle.kept_nodes.specs.Places.{nodes_in}
+use Rattle.kept_nodes.specs.Seen.{node_seen}
+use Rattle.kept_nodes.specs.Spans.{IsSpanOf}
+use Rattle.kept_nodes.specs.Wanted.{has_own, texts_of}
+use Rattle.kept_nodes.specs.declared.node.Node.{Node}
+use Rattle.kept_nodes.proofs.FoundNodes.{box_kept}
+use Rattle.kept_nodes.proofs.NodePlaces.{box_there}
 use Rattle.fleet_tables.proofs.SpanNodes.{absent_span, place_fits, span_at}
 use Rattle.fleet_tables.proofs.spans.span_in.Goals as goal
 

@@ -5,9 +5,9 @@ use Rattle.checkpoint_spec.specs.fleet_rows.declared.applied.Applied.{Applied}
 use Rattle.checkpoint_spec.specs.history_spec.Trace.{applied_as}
 use Rattle.checkpoint_spec.specs.table_machine.Steps.{with_node, with_applied}
 use Rattle.checkpoint_spec.specs.table_machine.Table.{node_cmp}
-use Rattle.fleet_tables.specs.Counted.{none, AreCountedFrom}
-use Rattle.fleet_tables.specs.Places.{nodes_in, seen_in}
-use Rattle.fleet_tables.proofs.Counting.{counted_front, counted_same, total_same}
+use Rattle.kept_nodes.specs.Counted.{none, AreCountedFrom}
+use Rattle.kept_nodes.specs.Places.{nodes_in, seen_in}
+use Rattle.kept_nodes.proofs.Counting.{counted_front, counted_same, total_same}
 use Rattle.fleet_tables.proofs.NodeOrder.{applied_in_order}
 use Rattle.fleet_tables.proofs.RowBounds.{few_within}
 use Rattle.fleet_tables.proofs.group.Group.apply.Goals as goal

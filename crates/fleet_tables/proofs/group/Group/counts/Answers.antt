@@ -1,6 +1,6 @@
 use Rattle.std.proofs.Common.{subst}
 use Rattle.fleet_tables.specs.Groups.{AreCountsOf}
-use Rattle.fleet_tables.specs.Places.{nodes_in}
+use Rattle.kept_nodes.specs.Places.{nodes_in}
 use Rattle.fleet_tables.proofs.RowBounds.{nodes_counted}
 use Rattle.fleet_tables.proofs.group.Group.counts.Goals as goal
 

@@ -1,7 +1,7 @@
 use Rattle.std.proofs.Common.{◌∙◌, false, sym, ap}
 use Rattle.std.specs.Option.{option_map_or}
 use Rattle.checkpoint_spec.specs.table_machine.Node.{node_inactive}
-use Rattle.fleet_tables.proofs.FoundNodes.{place_found, place_absent, place_within, box_kept}
+use Rattle.kept_nodes.proofs.FoundNodes.{place_found, place_absent, place_within, box_kept}
 use Rattle.fleet_tables.proofs.group.Group.inactive.Goals as goal
 
 pub is_inactive-requires : goal.is_inactive-requires

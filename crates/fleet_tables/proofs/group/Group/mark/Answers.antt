@@ -5,11 +5,11 @@ use Rattle.std.specs.declared.boxed.Box.{Box}
 use Rattle.std.proofs.lemmas.List.{length-map}
 use Rattle.checkpoint_spec.specs.table_machine.Steps.{with_node}
 use Rattle.checkpoint_spec.specs.table_machine.Table.{node_cmp}
-use Rattle.fleet_tables.specs.Listed.{with_activity}
-use Rattle.fleet_tables.specs.Counted.{none, AreCountedFrom, IsCountedBefore}
-use Rattle.fleet_tables.specs.Places.{nodes_in, seen_in}
-use Rattle.fleet_tables.specs.declared.node.Node.{Node}
-use Rattle.fleet_tables.proofs.Counting.{counted_front, counted_same, total_same}
+use Rattle.kept_nodes.specs.Seen.{with_activity}
+use Rattle.kept_nodes.specs.Counted.{none, AreCountedFrom, IsCountedBefore}
+use Rattle.kept_nodes.specs.Places.{nodes_in, seen_in}
+use Rattle.kept_nodes.specs.declared.node.Node.{Node}
+use Rattle.kept_nodes.proofs.Counting.{counted_front, counted_same, total_same}
 use Rattle.fleet_tables.proofs.MarkLaws.{marked_in_order}
 use Rattle.fleet_tables.proofs.RowBounds.{few_within}
 use Rattle.fleet_tables.proofs.group.Group.mark.Goals as goal

@@ -1,7 +1,7 @@
 use Rattle.std.proofs.Common.{◌∙◌, sym, ap}
 use Rattle.std.specs.Option.{option_and_then}
-use Rattle.fleet_tables.specs.Seen.{newest_rank}
-use Rattle.fleet_tables.proofs.FoundNodes.{place_found, place_absent}
+use Rattle.kept_nodes.specs.Seen.{newest_rank}
+use Rattle.kept_nodes.proofs.FoundNodes.{place_found, place_absent}
 use Rattle.fleet_tables.proofs.group.Group.newest.Goals as goal
 
 pub returns-in-Ok : goal.returns-in-Ok

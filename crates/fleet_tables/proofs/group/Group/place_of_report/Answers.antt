@@ -1,10 +1,10 @@
-use Rattle.std.proofs.Common.{◌≡◌, ◌∙◌, Option, IfOk, sym, ap, subst}
+use Rattle.std.proofs.Common.{Option, IfOk, sym, ap, subst}
 use Rattle.checkpoint_spec.specs.table_machine.Table as machine
 use Rattle.checkpoint_spec.specs.table_machine.Steps.{find_node}
-use Rattle.fleet_tables.specs.Places.{reports_of}
-use Rattle.fleet_tables.specs.ReportPlaces.{IsPlaceAmong}
-use Rattle.fleet_tables.proofs.FoundNodes.{place_found, place_absent, place_within, box_kept}
-use Rattle.fleet_tables.proofs.ReportLaws.{none_there}
+use Rattle.kept_nodes.specs.Places.{reports_of}
+use Rattle.kept_nodes.specs.ReportPlaces.{IsPlaceAmong}
+use Rattle.kept_nodes.proofs.FoundNodes.{place_found, place_absent, place_within, box_kept}
+use Rattle.kept_nodes.proofs.ReportLaws.{none_there}
 use Rattle.fleet_tables.proofs.group.Group.place_of_report.Goals as goal
 
 pub place_for_report-requires-clause-kept : goal.place_for_report-requires-clause-kept

@@ -1,9 +1,9 @@
 use Rattle.std.proofs.Common.{◌∙◌, sym, subst}
 use Rattle.std.specs.List.Sorted.{IsStrictlySortedBy}
 use Rattle.checkpoint_spec.specs.table_machine.Table.{node_cmp}
-use Rattle.fleet_tables.specs.Counted.{none}
-use Rattle.fleet_tables.specs.Places.{nodes_in}
-use Rattle.fleet_tables.proofs.Counting.{counted_same, total_same}
+use Rattle.kept_nodes.specs.Counted.{none}
+use Rattle.kept_nodes.specs.Places.{nodes_in}
+use Rattle.kept_nodes.proofs.Counting.{counted_same, total_same}
 use Rattle.fleet_tables.proofs.group.Group.prepare.Goals as goal
 
 -- no number changes, so that what is counted stays right

@@ -3,7 +3,7 @@ use Rattle.std.specs.List.Sorted.{IsStrictlySortedBy}
 use Rattle.checkpoint_spec.specs.table_machine.Node.{node_purged}
 use Rattle.checkpoint_spec.specs.table_machine.Table.{Node, node_cmp}
 use Rattle.fleet_tables.specs.Groups.{AreFew}
-use Rattle.fleet_tables.specs.Places.{nodes_in, seen_in, left_by_purge}
+use Rattle.kept_nodes.specs.Places.{nodes_in, seen_in, left_by_purge}
 use Rattle.fleet_tables.proofs.RowBounds.{nodes_counted, counted_few, purged_few, few_within}
 use Rattle.fleet_tables.proofs.NodeOrder.{purged_in_order}
 use Rattle.fleet_tables.proofs.group.Group.purge.Goals as goal

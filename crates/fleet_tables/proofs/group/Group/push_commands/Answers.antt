@@ -3,7 +3,7 @@ use Rattle.std.specs.List.{flat_map}
 use Rattle.std.proofs.lemmas.Result.{on_ok_weaker}
 use Rattle.checkpoint_spec.specs.table_machine.Table.{Node}
 use Rattle.checkpoint_spec.specs.Lists.{commands_of}
-use Rattle.fleet_tables.specs.Places.{seen_in}
+use Rattle.kept_nodes.specs.Places.{seen_in}
 use Rattle.fleet_tables.proofs.group.Group.push_commands.Goals as goal
 
 pub returns : goal.returns

@@ -2,7 +2,7 @@ use Rattle.std.proofs.Common.{◌∙◌, ◌++◌, List, ap, map}
 use Rattle.std.proofs.lemmas.Result.{on_ok_weaker}
 use Rattle.checkpoint_spec.specs.table_machine.Table.{Node}
 use Rattle.checkpoint_spec.specs.Lists.{mark_of}
-use Rattle.fleet_tables.specs.Places.{seen_in}
+use Rattle.kept_nodes.specs.Places.{seen_in}
 use Rattle.fleet_tables.proofs.group.Group.push_marks.Goals as goal
 
 pub returns : goal.returns

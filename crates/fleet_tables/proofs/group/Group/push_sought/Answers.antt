@@ -1,12 +1,12 @@
-use Rattle.std.proofs.Common.{◌≡◌, ◌∙◌, ◌<◌, ◌^◌, ◌+◌, ◌++◌, List, length, sym, ap, subst}
+use Rattle.std.proofs.Common.{◌∙◌, ◌<◌, ◌^◌, ◌+◌, ◌++◌, List, length, sym, ap, subst}
 use Rattle.std.specs.List.{AllByRecursion}
 use Rattle.std.proofs.lemmas.Result.{on_ok_weaker}
 use Rattle.checkpoint_spec.specs.table_machine.Table as machine
 use Rattle.fleet_tables.specs.Groups.{rows_of}
-use Rattle.fleet_tables.specs.Kept.{IsNode}
-use Rattle.fleet_tables.specs.Places.{Boxes, nodes_in, seen_in}
-use Rattle.fleet_tables.specs.Spans.{places_from}
-use Rattle.fleet_tables.specs.Wanted.{has_own, texts_of}
+use Rattle.kept_nodes.specs.Kept.{IsNode}
+use Rattle.kept_nodes.specs.Places.{Boxes, nodes_in, seen_in}
+use Rattle.kept_nodes.specs.Spans.{places_from}
+use Rattle.kept_nodes.specs.Wanted.{has_own, texts_of}
 use Rattle.fleet_tables.proofs.group.Group.push_sought.Goals as goal
 
 pub push_nodes-requires : goal.push_nodes-requires

@@ -2,8 +2,8 @@ use Rattle.std.proofs.Common.{◌≡◌, ◌∙◌, length, map, Some, sym, ap, 
 use Rattle.std.specs.Option.{option_map}
 use Rattle.std.proofs.lemmas.List.{length-map}
 use Rattle.checkpoint_spec.specs.table_machine.Table as machine
-use Rattle.fleet_tables.specs.Seen.{report_seen}
-use Rattle.fleet_tables.proofs.FoundNodes.{place_found, place_absent}
+use Rattle.kept_nodes.specs.Seen.{report_seen}
+use Rattle.kept_nodes.proofs.FoundNodes.{place_found, place_absent}
 use Rattle.fleet_tables.proofs.group.Group.reports.Goals as goal
 
 pub returns-in-Ok-clause-value : goal.returns-in-Ok-clause-value

@@ -3,7 +3,7 @@ use Rattle.std.specs.List.Sorted.{IsStrictlySortedBy}
 use Rattle.checkpoint_spec.specs.table_machine.Steps.{with_retained}
 use Rattle.checkpoint_spec.specs.table_machine.Table.{node_cmp}
 use Rattle.fleet_tables.specs.Groups.{AreFew}
-use Rattle.fleet_tables.specs.Places.{nodes_in, seen_in}
+use Rattle.kept_nodes.specs.Places.{nodes_in, seen_in}
 use Rattle.fleet_tables.proofs.RowBounds.{nodes_counted, counted_few, retained_few, few_within}
 use Rattle.fleet_tables.proofs.NodeOrder.{retained_in_order}
 use Rattle.fleet_tables.proofs.group.Group.retain.Goals as goal

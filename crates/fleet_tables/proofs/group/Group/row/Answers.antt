@@ -10,17 +10,17 @@ use Rattle.checkpoint_spec.specs.fleet_rows.declared.row.Row.{Row}
 use Rattle.checkpoint_spec.specs.fleet_rows.declared.settings.Ttls.{Ttls}
 use Rattle.checkpoint_spec.specs.table_machine.Table as machine
 use Rattle.checkpoint_spec.specs.table_spec.Rows.{Cells}
-use Rattle.fleet_tables.specs.Counted.{none, counts, count_of, total_from, AreCountedFrom}
-use Rattle.fleet_tables.specs.Places.{nodes_in, seen_in, Boxes, HasRow}
+use Rattle.kept_nodes.specs.Counted.{none, counts, count_of, total_from, AreCountedFrom}
+use Rattle.kept_nodes.specs.Places.{nodes_in, seen_in, Boxes, HasRow}
 use Rattle.checkpoint_spec.specs.table_machine.Rows.{node_rows}
 use Rattle.fleet_tables.specs.Groups.{rows_of}
-use Rattle.fleet_tables.specs.Rows.{IsRowAt}
-use Rattle.fleet_tables.specs.Seen.{node_seen}
-use Rattle.fleet_tables.specs.declared.node.Node.{Node}
-use Rattle.fleet_tables.proofs.FoundNodes.{box_kept}
-use Rattle.fleet_tables.proofs.NodePlaces.{box_there}
-use Rattle.fleet_tables.proofs.RowCounts.{nodes_count, total_is}
-use Rattle.fleet_tables.proofs.RowPlaces.{single_at, row_of_node}
+use Rattle.kept_nodes.specs.Rows.{IsRowAt}
+use Rattle.kept_nodes.specs.Seen.{node_seen}
+use Rattle.kept_nodes.specs.declared.node.Node.{Node}
+use Rattle.kept_nodes.proofs.FoundNodes.{box_kept}
+use Rattle.kept_nodes.proofs.NodePlaces.{box_there}
+use Rattle.kept_nodes.proofs.RowCounts.{nodes_count, total_is}
+use Rattle.kept_nodes.proofs.RowPlaces.{single_at, row_of_node}
 use Rattle.fleet_tables.proofs.group.Group.row.Goals as goal
 
 -- ---- the row of a node

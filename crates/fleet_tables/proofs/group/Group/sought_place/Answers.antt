@@ -1,11 +1,11 @@
-use Rattle.std.proofs.Common.{◌≡◌, ◌<◌, ◌^◌, ◌+◌, ◌++◌, List, length, sym, ap, subst}
+use Rattle.std.proofs.Common.{◌<◌, ◌^◌, ◌+◌, List, length, sym, subst}
 use Rattle.std.specs.List.{AllByRecursion}
 use Rattle.checkpoint_spec.specs.table_machine.Table as machine
 use Rattle.fleet_tables.specs.Groups.{rows_of}
-use Rattle.fleet_tables.specs.Kept.{IsNode}
-use Rattle.fleet_tables.specs.Places.{Boxes, nodes_in, seen_in}
-use Rattle.fleet_tables.specs.Spans.{IsNthPlace}
-use Rattle.fleet_tables.specs.Wanted.{has_own, texts_of}
+use Rattle.kept_nodes.specs.Kept.{IsNode}
+use Rattle.kept_nodes.specs.Places.{Boxes, nodes_in, seen_in}
+use Rattle.kept_nodes.specs.Spans.{IsNthPlace}
+use Rattle.kept_nodes.specs.Wanted.{has_own, texts_of}
 use Rattle.fleet_tables.proofs.group.Group.sought_place.Goals as goal
 
 pub place_in_nodes-requires : goal.place_in_nodes-requires

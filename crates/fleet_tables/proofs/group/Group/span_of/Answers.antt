@@ -1,13 +1,13 @@
 use Rattle.std.proofs.Common.{List, sym, subst}
 use Rattle.std.specs.List.{AllByRecursion}
 use Rattle.checkpoint_spec.specs.table_machine.Table as machine
-use Rattle.fleet_tables.specs.Counted.{none, AreCountedFrom}
+use Rattle.kept_nodes.specs.Counted.{none, AreCountedFrom}
 use Rattle.fleet_tables.specs.Groups.{rows_of, AreFew}
-use Rattle.fleet_tables.specs.Kept.{IsNode}
-use Rattle.fleet_tables.specs.Owned.{IsOwn}
-use Rattle.fleet_tables.specs.Places.{Boxes, nodes_in, seen_in, InOrder}
-use Rattle.fleet_tables.specs.Spans.{IsSpanOf}
-use Rattle.fleet_tables.specs.Wanted.{is_of_node, texts_of}
+use Rattle.kept_nodes.specs.Kept.{IsNode}
+use Rattle.kept_nodes.specs.Owned.{IsOwn}
+use Rattle.kept_nodes.specs.Places.{Boxes, nodes_in, seen_in, InOrder}
+use Rattle.kept_nodes.specs.Spans.{IsSpanOf}
+use Rattle.kept_nodes.specs.Wanted.{is_of_node, texts_of}
 use Rattle.fleet_tables.proofs.RowBounds.{nodes_counted, counted_few}
 use Rattle.fleet_tables.proofs.group.Group.span_of.Goals as goal
 

@@ -1,10 +1,10 @@
 use Rattle.std.proofs.Common.{◌∙◌, ◌/◌, ◌++◌, sym, ap, subst}
 use Rattle.std.specs.List.{AllByRecursion}
 use Rattle.std.proofs.lemmas.List.{take-append-drop}
-use Rattle.fleet_tables.specs.Counted.{none, total_from, AreCountedFrom, IsWithin}
-use Rattle.fleet_tables.specs.Kept.{IsNode}
-use Rattle.fleet_tables.specs.Places.{Boxes, nodes_in, seen_in, InOrder}
-use Rattle.fleet_tables.proofs.Counting.{counted_front}
+use Rattle.kept_nodes.specs.Counted.{none, total_from, AreCountedFrom, IsWithin}
+use Rattle.kept_nodes.specs.Kept.{IsNode}
+use Rattle.kept_nodes.specs.Places.{Boxes, nodes_in, seen_in, InOrder}
+use Rattle.kept_nodes.proofs.Counting.{counted_front}
 use Rattle.fleet_tables.proofs.Halves.{front_seen, behind_seen, front_kept, behind_kept, front_ordered, behind_ordered, front_counted, front_within, behind_within}
 use Rattle.fleet_tables.proofs.group.Group.split.Goals as goal
 

@@ -1,7 +1,7 @@
-use Rattle.std.proofs.Common.{◌≡◌, ◌∙◌, ◌<◌, length, slice_get, sym, ap, subst}
+use Rattle.std.proofs.Common.{◌∙◌, ◌<◌, length, slice_get, sym, ap, subst}
 use Rattle.checkpoint_spec.specs.table_machine.Rows.{table_rows}
-use Rattle.fleet_tables.specs.Wanted.{has_own, texts_of}
-use Rattle.fleet_tables.proofs.PlaceLaws.{as_many}
+use Rattle.kept_nodes.specs.Wanted.{has_own, texts_of}
+use Rattle.kept_nodes.proofs.PlaceLaws.{as_many}
 use Rattle.fleet_tables.proofs.lookups.Places.at.Goals as goal
 
 pub sought_at-requires : goal.sought_at-requires

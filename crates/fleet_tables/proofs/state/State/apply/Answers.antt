@@ -7,7 +7,7 @@ use Rattle.checkpoint_spec.specs.table_machine.Table.{Table}
 use Rattle.checkpoint_spec.specs.fleet_rows.Change.{change_certname}
 use Rattle.fleet_tables.specs.Groups.{joined, AreFew, StandInOrder}
 use Rattle.fleet_tables.specs.Rooms.{Fits, RoomFor}
-use Rattle.fleet_tables.specs.Owned.{IsOwn}
+use Rattle.kept_nodes.specs.Owned.{IsOwn}
 use Rattle.fleet_tables.proofs.OwnLaws.{all_applied_own}
 use Rattle.fleet_tables.proofs.NodeOrder.{applied_in_order, has_stamp_moment}
 use Rattle.fleet_tables.proofs.RowBounds.{applied_few}

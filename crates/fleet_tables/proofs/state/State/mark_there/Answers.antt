@@ -1,7 +1,7 @@
 use Rattle.std.proofs.Common.{◌+◌, ◌≤◌, sym, subst, rules}
-use Rattle.fleet_tables.specs.Counted.{limit}
+use Rattle.kept_nodes.specs.Counted.{limit}
 use Rattle.fleet_tables.specs.Groups.{AreKept}
-use Rattle.fleet_tables.specs.declared.counts.Counts.{Counts}
+use Rattle.kept_nodes.specs.declared.counts.Counts.{Counts}
 use Rattle.fleet_tables.proofs.JoinedNodes.{Groups}
 use Rattle.fleet_tables.proofs.MarkLaws.{marked_kept, few_with_mark}
 use Rattle.fleet_tables.proofs.state.State.mark_there.Goals as goal

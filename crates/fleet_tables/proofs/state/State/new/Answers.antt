@@ -1,7 +1,7 @@
 use Rattle.std.proofs.Common.{lit≤}
 use Rattle.checkpoint_spec.proofs.of_history_laws.StrictlySorted.{sorted-nil}
 use Rattle.checkpoint_spec.specs.table_machine.Table.{node_cmp}
-use Rattle.fleet_tables.proofs.RowCounts.{count_none}
+use Rattle.kept_nodes.proofs.RowCounts.{count_none}
 use Rattle.fleet_tables.proofs.state.State.new.Goals as goal
 
 pub invariant_of-result : goal.invariant_of-result

@@ -1,10 +1,10 @@
-use Rattle.std.proofs.Common.{◌≡◌, IfOk, sym, subst}
+use Rattle.std.proofs.Common.{IfOk, sym, subst}
 use Rattle.checkpoint_spec.specs.fleet_rows.Change.{change_certname}
 use Rattle.checkpoint_spec.specs.fleet_rows.declared.change.Change.{Change}
 use Rattle.checkpoint_spec.specs.table_machine.Steps.{find_node}
-use Rattle.fleet_tables.specs.Places.{reports_of}
-use Rattle.fleet_tables.specs.ReportPlaces.{IsPlaceFor}
-use Rattle.fleet_tables.specs.Rooms.{IsShownOf}
+use Rattle.kept_nodes.specs.Places.{reports_of}
+use Rattle.kept_nodes.specs.ReportPlaces.{IsPlaceFor}
+use Rattle.kept_nodes.specs.Computed.{IsShownOf}
 use Rattle.fleet_tables.proofs.RoomFits.{shown_printable}
 use Rattle.fleet_tables.proofs.state.State.place_for.Goals as goal
 

@@ -4,7 +4,7 @@ use Rattle.checkpoint_spec.specs.table_machine.Node.{node_purged}
 use Rattle.checkpoint_spec.specs.table_machine.Table.{Node}
 use Rattle.fleet_tables.specs.Groups.{joined, AreFew, AreCountsOf, StandInOrder}
 use Rattle.fleet_tables.proofs.JoinedNodes.{Groups}
-use Rattle.fleet_tables.specs.Owned.{IsOwn}
+use Rattle.kept_nodes.specs.Owned.{IsOwn}
 use Rattle.fleet_tables.proofs.OwnLaws.{all_left_own}
 use Rattle.fleet_tables.proofs.NodeOrder.{purged_in_order}
 use Rattle.fleet_tables.proofs.RowBounds.{counted_few, purged_few}

@@ -1,12 +1,12 @@
-use Rattle.std.proofs.Common.{◌≡◌, ◌∙◌, Option, IfOk, sym, ap, subst}
+use Rattle.std.proofs.Common.{◌∙◌, Option, IfOk, sym, ap, subst}
 use Rattle.checkpoint_spec.specs.table_machine.Table as machine
 use Rattle.checkpoint_spec.specs.table_machine.Table.{Table}
 use Rattle.checkpoint_spec.specs.table_machine.Steps.{find_node}
 use Rattle.fleet_tables.specs.Groups.{joined}
-use Rattle.fleet_tables.specs.Places.{reports_of}
-use Rattle.fleet_tables.specs.ReportPlaces.{IsPlaceAmong}
+use Rattle.kept_nodes.specs.Places.{reports_of}
+use Rattle.kept_nodes.specs.ReportPlaces.{IsPlaceAmong}
 use Rattle.fleet_tables.proofs.JoinedNodes.{Groups}
-use Rattle.fleet_tables.proofs.ReportLaws.{none_there}
+use Rattle.kept_nodes.proofs.ReportLaws.{none_there}
 use Rattle.fleet_tables.proofs.state.State.report_place.Goals as goal
 
 pub returns-in-Some : goal.returns-in-Some

@@ -4,7 +4,7 @@ use Rattle.checkpoint_spec.specs.stamp_time.Range.{IsStampMoment}
 use Rattle.fleet_tables.specs.Groups.{joined, AreFew, AreCountsOf, StandInOrder}
 use Rattle.fleet_tables.proofs.JoinedNodes.{Groups}
 use Rattle.checkpoint_spec.proofs.of_history_laws.Moments.{later_is_stamp}
-use Rattle.fleet_tables.specs.Owned.{IsOwn}
+use Rattle.kept_nodes.specs.Owned.{IsOwn}
 use Rattle.fleet_tables.proofs.OwnLaws.{all_retained_own}
 use Rattle.fleet_tables.proofs.NodeOrder.{retained_in_order}
 use Rattle.fleet_tables.proofs.RowBounds.{counted_few, retained_few}

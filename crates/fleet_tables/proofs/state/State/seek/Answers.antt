@@ -1,14 +1,14 @@
-use Rattle.std.proofs.Common.{◌≡◌, ◌∙◌, ◌+◌, ◌<◌, ◌≤◌, ◌^◌, ℕ, List, length, Option, Some, None, sym, ap, subst, arith}
+use Rattle.std.proofs.Common.{◌≡◌, ◌∙◌, ◌+◌, ◌≤◌, ℕ, List, length, Some, None, sym, ap, subst, arith}
 use Rattle.std.specs.Prelude.{Bool, ◌&&◌, codes}
 use Rattle.std.proofs.lemmas.Result.{IfOk-weaker}
 use Rattle.checkpoint_spec.specs.fleet_rows.declared.row.Entity.{Entity}
 use Rattle.checkpoint_spec.specs.table_machine.Rows.{table_rows}
 use Rattle.checkpoint_spec.specs.table_machine.Table.{Table}
 use Rattle.checkpoint_spec.specs.table_spec.Rows.{Cells}
-use Rattle.fleet_tables.specs.Counted.{limit}
+use Rattle.kept_nodes.specs.Counted.{limit}
 use Rattle.fleet_tables.specs.Groups.{joined, rows_of, AreFew}
-use Rattle.fleet_tables.specs.Spans.{neighbours, places_from, places_of}
-use Rattle.fleet_tables.specs.Wanted.{WantedTexts, has_own, has_text_in, is_of_node, is_wanted, text_in, texts_of}
+use Rattle.kept_nodes.specs.Spans.{neighbours, places_from, places_of}
+use Rattle.kept_nodes.specs.Wanted.{WantedTexts, has_own, has_text_in, is_of_node, is_wanted, text_in, texts_of}
 use Rattle.fleet_tables.proofs.JoinedNodes.{Groups}
 use Rattle.fleet_tables.proofs.RowBounds.{counted_few}
 use Rattle.fleet_tables.proofs.state.State.seek.Goals as goal

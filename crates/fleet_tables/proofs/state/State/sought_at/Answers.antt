@@ -1,11 +1,10 @@
-use Rattle.std.proofs.Common.{◌<◌, ◌≡◌, ◌+◌, Ok, sym, subst, arith}
-use Rattle.checkpoint_spec.specs.fleet_rows.declared.row.Entity.{Entity}
+use Rattle.std.proofs.Common.{◌≡◌, ◌+◌, Ok, sym, subst, arith}
 use Rattle.checkpoint_spec.specs.table_machine.Rows.{table_rows}
 use Rattle.checkpoint_spec.specs.table_machine.Table.{Table}
 use Rattle.fleet_tables.specs.Groups.{joined, AreFew, rows_of}
-use Rattle.fleet_tables.specs.Runs.{number}
-use Rattle.fleet_tables.specs.Spans.{IsNthPlace}
-use Rattle.fleet_tables.specs.Wanted.{has_own, texts_of}
+use Rattle.kept_nodes.specs.Runs.{number}
+use Rattle.kept_nodes.specs.Spans.{IsNthPlace}
+use Rattle.kept_nodes.specs.Wanted.{has_own, texts_of}
 use Rattle.fleet_tables.proofs.JoinedNodes.{Groups}
 use Rattle.fleet_tables.proofs.RowBounds.{counted_few}
 use Rattle.fleet_tables.proofs.state.State.sought_at.Goals as goal

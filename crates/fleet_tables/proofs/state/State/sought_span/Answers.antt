@@ -1,11 +1,11 @@
-use Rattle.std.proofs.Common.{List, sym, ap, subst}
+use Rattle.std.proofs.Common.{sym, subst}
 use Rattle.std.specs.List.{AllByRecursion}
 use Rattle.checkpoint_spec.specs.table_machine.Rows.{table_rows}
 use Rattle.checkpoint_spec.specs.table_machine.Table.{Table}
 use Rattle.fleet_tables.specs.Groups.{joined, AreFew, AreFilledOrOne, StandInOrder, rows_of}
-use Rattle.fleet_tables.specs.Owned.{IsOwn}
-use Rattle.fleet_tables.specs.Spans.{IsSpanOf}
-use Rattle.fleet_tables.specs.Wanted.{is_of_node, texts_of}
+use Rattle.kept_nodes.specs.Owned.{IsOwn}
+use Rattle.kept_nodes.specs.Spans.{IsSpanOf}
+use Rattle.kept_nodes.specs.Wanted.{is_of_node, texts_of}
 use Rattle.fleet_tables.proofs.JoinedNodes.{Groups, filled_or_one}
 use Rattle.fleet_tables.proofs.RowBounds.{counted_few}
 use Rattle.fleet_tables.proofs.state.State.sought_span.Goals as goal

@@ -3,10 +3,11 @@ use Rattle.std.specs.Option.{unwrap_or}
 use Rattle.checkpoint_spec.specs.fleet_rows.declared.row.Entity.TheVariants.{Nodes}
 use Rattle.checkpoint_spec.specs.table_machine.Table.{Table}
 use Rattle.fleet_tables.specs.Groups.{AreCountsOf}
-use Rattle.fleet_tables.specs.Rooms.{IsListFor, IsNewFor}
+use Rattle.kept_nodes.specs.Computed.{IsListFor}
+use Rattle.fleet_tables.specs.Rooms.{IsNewFor}
 use Rattle.fleet_tables.proofs.JoinedNodes.{no_groups}
 use Rattle.fleet_tables.proofs.RoomFits.{fits, spare_at, few_reports}
-use Rattle.fleet_tables.proofs.RowCounts.{nodes_count}
+use Rattle.kept_nodes.proofs.RowCounts.{nodes_count}
 use Rattle.fleet_tables.proofs.state.State.spare_for.Goals as goal
 
 pub room_for_reports-requires : goal.room_for_reports-requires

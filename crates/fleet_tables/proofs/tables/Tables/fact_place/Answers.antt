@@ -1,12 +1,11 @@
-use Rattle.std.proofs.Common.{◌≡◌, ◌∙◌, ◌+◌, ◌<◌, ◌≤◌, ℕ, List, length, slice_get, Some, None, sym, subst, arith}
-use Rattle.std.specs.List.{find}
+use Rattle.std.proofs.Common.{◌≡◌, ℕ, List, sym, subst, arith}
 use Rattle.checkpoint_spec.specs.fleet_rows.declared.row.Entity.TheVariants.{Facts}
 use Rattle.checkpoint_spec.specs.table_machine.Rows.{table_rows}
 use Rattle.checkpoint_spec.specs.table_machine.Table.{Table}
-use Rattle.fleet_tables.specs.Spans.{IsSpanOf}
-use Rattle.fleet_tables.specs.Wanted.{is_fact}
-use Rattle.fleet_tables.specs.declared.wanted.Span.{Span}
-use Rattle.fleet_tables.proofs.PlaceLaws.{span_first, span_none}
+use Rattle.kept_nodes.specs.Spans.{IsSpanOf}
+use Rattle.kept_nodes.specs.Wanted.{is_fact}
+use Rattle.kept_nodes.specs.declared.wanted.Span.{Span}
+use Rattle.kept_nodes.proofs.PlaceLaws.{span_first, span_none}
 use Rattle.fleet_tables.proofs.tables.Tables.fact_place.Goals as goal
 
 -- of the table that contracts see

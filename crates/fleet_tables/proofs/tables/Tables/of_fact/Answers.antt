@@ -1,9 +1,9 @@
-use Rattle.std.proofs.Common.{◌≡◌, ap}
+use Rattle.std.proofs.Common.{ap}
 use Rattle.checkpoint_spec.specs.fleet_rows.declared.row.Entity.TheVariants.{Facts}
 use Rattle.checkpoint_spec.specs.table_machine.Rows.{table_rows}
 use Rattle.checkpoint_spec.specs.table_machine.Table.{Table}
-use Rattle.fleet_tables.specs.Spans.{places_of}
-use Rattle.fleet_tables.specs.Wanted.{has_own, of_name}
+use Rattle.kept_nodes.specs.Spans.{places_of}
+use Rattle.kept_nodes.specs.Wanted.{has_own, of_name}
 use Rattle.fleet_tables.proofs.tables.Tables.of_fact.Goals as goal
 
 pub returns : goal.returns

@@ -1,13 +1,13 @@
-use Rattle.std.proofs.Common.{◌≡◌, ◌∙◌, ◌+◌, ◌≤◌, ℕ, List, length, ap, sym, subst}
+use Rattle.std.proofs.Common.{◌≡◌, ◌+◌, ℕ, List, subst}
 use Rattle.std.specs.Prelude.{filter, slice_range}
 use Rattle.checkpoint_spec.specs.fleet_rows.declared.row.Entity.{Entity}
 use Rattle.checkpoint_spec.specs.table_machine.Rows.{table_rows}
 use Rattle.checkpoint_spec.specs.table_machine.Table.{Table}
 use Rattle.checkpoint_spec.specs.table_spec.Rows.{Cells}
-use Rattle.fleet_tables.specs.Spans.{IsSpanOf}
-use Rattle.fleet_tables.specs.Wanted.{is_of_node, is_wanted, of_certname}
-use Rattle.fleet_tables.specs.declared.wanted.Span.{Span}
-use Rattle.fleet_tables.proofs.PlaceLaws.{span_range}
+use Rattle.kept_nodes.specs.Spans.{IsSpanOf}
+use Rattle.kept_nodes.specs.Wanted.{is_of_node, is_wanted, of_certname}
+use Rattle.kept_nodes.specs.declared.wanted.Span.{Span}
+use Rattle.kept_nodes.proofs.PlaceLaws.{span_range}
 use Rattle.fleet_tables.proofs.RowLaws.{table_rows_are}
 use Rattle.fleet_tables.proofs.tables.Tables.of_node.Goals as goal
 

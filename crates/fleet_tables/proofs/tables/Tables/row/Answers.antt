@@ -1,6 +1,6 @@
 use Rattle.std.proofs.Common.{IfOk, ◌∙◌, ap, subst}
 use Rattle.checkpoint_spec.specs.table_machine.Rows.{table_rows}
-use Rattle.fleet_tables.specs.Rows.{IsRowAt}
+use Rattle.kept_nodes.specs.Rows.{IsRowAt}
 use Rattle.fleet_tables.proofs.RowLaws.{table_rows_are}
 use Rattle.fleet_tables.proofs.tables.Tables.row.Goals as goal
 

@@ -1,7 +1,0 @@
-use Rattle.std.proofs.Common.{◌<◌, length}
-use Rattle.fleet_tables.specs.declared.kept.Report.{Report}
-use Rattle.fleet_tables.proofs.LeastReports.{IsLeast}
-use Rattle.fleet_tables.proofs.reports.place_of_least.Given as goal
-
-abbrev pub invariant-reports : goal.invariant-reports
-invariant-reports l = (l.least < length l.reports) × ((x : Report) × IsLeast l.reports l.at l.least x)

@@ -1,5 +1,0 @@
-use Rattle.fleet_tables.proofs.Printable.{report_moments}
-use Rattle.fleet_tables.proofs.room.report_shown.Goals as goal
-
-pub report_digest-requires : goal.report_digest-requires
-report_digest-requires c = report_moments c.args.change.now c.requires

@@ -1,0 +1,12 @@
+pub mod Seen
+pub mod Rows
+pub mod Counted
+pub mod Owned
+pub mod Places
+pub mod Packed
+pub mod Kept
+pub mod ReportPlaces
+pub mod Computed
+pub mod Wanted
+pub mod Runs
+pub mod Spans
