@@ -503,6 +503,7 @@ module _ {D K : Type 0} (p : Ports D K) (old new : CoreState D K) where
         only = tt;
         events = ap (λ (x : CoreState D K). x.events.list) same;
         size = (let sizes = ap (λ (x : CoreState D K). queue_size x.queue) same in omega (arith, sizes));
+        within = λ short. (let sizes = ap (λ (x : CoreState D K). queue_size x.queue) same in omega (arith, sizes, short));
         records = λ up told records is. ap (λ (x : CoreState D K). queued p.seen x.queue) same ∙ is ∙ ap (λ (xs : List QueueRecord). Some xs) (sym (append-nil records));
         last = ap (λ (x : CoreState D K). x.last) same;
       })
@@ -513,6 +514,7 @@ module _ {D K : Type 0} (p : Ports D K) (old new : CoreState D K) where
         only = so_far.appended.only;
         events = added.events ∙ ap (λ (h : History). claim_of came ++ h) so_far.appended.events;
         size = added.size ∙ so_far.appended.size;
+        within = λ short. (let sizes = added.size in let before = so_far.appended.within short in omega (arith, sizes, before));
         records = λ still told records is. added.records still told ∙ so_far.appended.records (core_up p mid so_far.up).queue told records is;
         last = added.last ∙ so_far.last;
       }

@@ -58,7 +58,7 @@ module _ {D K : Type 0} (p : Ports D K) where
     store = refl;
     last = refl;
     more = [];
-    appended = record { only = tt; events = refl; size = omega arith; fits = inl refl; records = λ up told records is. is ∙ ap (λ (xs : List QueueRecord). Some xs) (sym (append-nil records)) };
+    appended = record { only = tt; events = refl; size = omega arith; fits = inl refl; within = λ short. short; records = λ up told records is. is ∙ ap (λ (xs : List QueueRecord). Some xs) (sym (append-nil records)) };
     submitted = λ r c s. s;
     calm = record { later_a = omega arith; later_b = omega arith; cause = λ none. absurd none; calm = λ none. (refl, refl) };
     stands = λ start s. s;
@@ -253,6 +253,7 @@ module _ {D K : Type 0} (p : Ports D K) where
       events = did.events ∙ ap (λ (h : History). the_event ∷ h) so_far.appended.events;
       size = (let grew = did.put.grew refl in let before = so_far.appended.size in omega (arith, grew, before));
       fits = inr (⊎_elim (λ none. (let same = ap length none in let before = so_far.appended.size in omega (arith, same, before, fits_now))) (λ fits. fits) so_far.appended.fits);
+      within = λ short. (let grew = did.put.grew refl in omega (arith, grew, fits_now));
       records = λ up told records is.
           did.put.queued_one refl told ∙ ap (λ (o : Option (List QueueRecord)). with_one o the_record) (so_far.appended.records (core_up p mid so_far.up).queue told records is)
           ∙ ap (λ (xs : List QueueRecord). Some xs) (append_assoc records (queue_trace so_far.more) (the_record ∷ []));

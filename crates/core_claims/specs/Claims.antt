@@ -90,13 +90,14 @@ OnlySupersede [] = Unit {0}
 OnlySupersede (Supersede q p ∷ more) = OnlySupersede more
 OnlySupersede (_ ∷ more) = ⊥
 
--- Only supersedings were added. The queue's log had room for their records and grew by them. If the log isn't down, they are at
--- its end.
+-- Only supersedings were added. The queue's log had room for their records and grew by them, to at most 2^62 bytes. If the log isn't
+-- down, they are at its end.
 pub record Appended {D K : Type 0} (tells : Bool) (seen : D → List ℕ) (more : History) (old new : CoreState D K) : Type 0 where
   pub only : OnlySupersede more
   pub events : new.events.list ≡ more ++ old.events.list
   pub size : queue_size new.queue ≡ queue_size old.queue + 22 * length more
   pub fits : (more ≡ []) ⊎ (queue_size old.queue + 22 ≤ most_log)
+  pub within : queue_size old.queue ≤ most_log → queue_size new.queue ≤ most_log
   pub records : queue_down new.queue ≡ false → IsTrue tells → (records : List QueueRecord) → queued seen old.queue ≡ Some records → queued seen new.queue ≡ Some (records ++ queue_trace more)
 
 -- the events of an answer
@@ -110,5 +111,6 @@ pub record ClaimAdds {D K : Type 0} (tells : Bool) (seen : D → List ℕ) (came
   pub only : OnlySupersede more
   pub events : new.events.list ≡ claim_of came ++ (more ++ old.events.list)
   pub size : queue_size new.queue ≡ queue_size old.queue + 22 * length more
+  pub within : queue_size old.queue ≤ most_log → queue_size new.queue ≤ most_log
   pub records : queue_down new.queue ≡ false → IsTrue tells → (records : List QueueRecord) → queued seen old.queue ≡ Some records → queued seen new.queue ≡ Some (records ++ queue_trace more)
   pub last : new.last ≡ old.last

@@ -14,6 +14,7 @@ use Rattle.core_claims.specs.core_machine.Claims.{is_claimed}
 use Rattle.core_claims.specs.queue_log.Queued.{queued, queue_down, queue_size}
 use Rattle.core_claims.specs.declared.job.Job.{Job}
 use Rattle.core_claims.specs.core_state.declared.state.CoreState.{CoreState}
+use Rattle.core_claims.proofs.of_core_state.Fits.{put_fits, kept_fits}
 use Rattle.core_claims.proofs.of_core_state.Ports.{Ports, keeper_stays}
 use Rattle.core_claims.proofs.of_core_state.Standing.{is_down}
 use Rattle.core_settles.specs.declared.answers.Settled.{Settled}
@@ -45,7 +46,7 @@ module _ {D K : Type 0} (p : Ports D K) (job : Job) (old new : CoreState D K) wh
   same_queue same = (ap queue_size same, (λ up told. ap (queued p.seen) same))
 
   put_queue : (rec : QueueRecord) → Put p job old new kept.Ok rec → QueueWrites p.tells p.seen (Some rec) old.queue new.queue
-  put_queue rec put = (put.grew refl, put.queued_one refl)
+  put_queue rec put = (put.grew refl, put.queued_one refl, put_fits p old.queue new.queue rec put)
 
   unput_queue : (answer : Kept) (rec : QueueRecord) → IsFaulty answer → Put p job old new answer rec → Unwritten
   unput_queue kept.Ok rec faulty put = absurd faulty
@@ -82,7 +83,7 @@ module _ {D K : Type 0} (p : Ports D K) (job : Job) (old new : CoreState D K) wh
   same_store v same = (ap p.store_size same, (λ up told. ap p.kept same))
 
   has_change : (change : Change) → Keeps p job old new kept.Ok (kept_record p job old new change) new.store → StoresIf true (verdict.Change change)
-  has_change change keeps = (keeps.grew refl, keeps.kept_one refl)
+  has_change change keeps = (keeps.grew refl, keeps.kept_one refl, kept_fits p old.store new.store (kept_record p job old new change) keeps)
 
   has_failed : (v : Verdict) (change : Change) → StoreFailed p job old new change → StoresIf false v
   has_failed v change f = (f.keeps.same_size (λ e. cc), (λ up told. f.keeps.kept_old tt told))

@@ -129,17 +129,18 @@ queue_record settled.Discarded job (verdict.Refused refusal) before now = Some (
 queue_record (settled.Failed attempts) job v before now = Some (queue.Fail job.receipt before now)
 queue_record _ job v before now = None
 
--- If there is a record, it is at the end of the log, which grew by its frame. Otherwise the log's size is unchanged, and so are
--- its records, if the log isn't down.
+-- If there is a record, it is at the end of the log, which grew by its frame and has at most 2^62 bytes. Otherwise the log's size is
+-- unchanged, and so are its records, if the log isn't down.
 abbrev pub QueueWrites : {D : Type 0} → Bool → (D → List ℕ) → Option QueueRecord → QueueLog D → QueueLog D → Type 0
-QueueWrites tells seen (Some rec) old new = (queue_size new ≡ queue_size old + 5 + length (queue_text rec)) × (IsTrue tells → queued seen new ≡ with_one (queued seen old) rec)
+QueueWrites tells seen (Some rec) old new = (queue_size new ≡ queue_size old + 5 + length (queue_text rec)) × (IsTrue tells → queued seen new ≡ with_one (queued seen old) rec) × (queue_size new ≤ most_log)
 QueueWrites tells seen None old new = (queue_size new ≡ queue_size old) × (queue_down new ≡ false → IsTrue tells → queued seen new ≡ queued seen old)
 
--- If the command is applied, the store has the change at its end. Otherwise the store's records are unchanged, if it isn't down.
+-- If the command is applied, the store has the change at its end, in a log of at most 2^62 bytes. Otherwise the store's records are
+-- unchanged, if it isn't down.
 abbrev pub StoreWrites : {K : Type 0} → Bool → (K → Option (List StoreRecord)) → (K → Bool) → (K → ℕ) → Bool → Job → Verdict → K → K → Type 0
 StoreWrites tells kept down size true job (verdict.Change change) old new =
     (size new ≡ size old + 5 + length (store_text (store.Received job.receipt (Some job.command.received) change)))
-    × (IsTrue tells → kept new ≡ with_one (kept old) (store.Received job.receipt (Some job.command.received) change))
+    × (IsTrue tells → kept new ≡ with_one (kept old) (store.Received job.receipt (Some job.command.received) change)) × (size new ≤ most_log)
 StoreWrites tells kept down size true job (verdict.Refused refusal) old new = ⊥
 StoreWrites tells kept down size false job v old new = (size new ≡ size old) × (down new ≡ false → IsTrue tells → kept new ≡ kept old)
 

@@ -12,6 +12,7 @@ pub mod Carried
 pub mod Spellings
 pub mod PutStands
 pub mod KindLaws
+pub mod Fits
 -- What those above use of the crates below.
 pub use Rattle.supersede_core.proofs.of_plain_laws as of_plain_laws
 pub use Rattle.fleet_tables.proofs.of_wire_laws as of_wire_laws

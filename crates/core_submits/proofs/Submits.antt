@@ -25,6 +25,7 @@ use Rattle.core_state.specs.Puts.{QueueCounts, QueueRoseTwice}
 use Rattle.core_state.specs.Seen.{events_of, held_of, claimed_number, IsSubmitted}
 use Rattle.core_state.specs.StandsFor.{one, history_of}
 use Rattle.core_state.proofs.Carried.{same_others, same_stays, submitted_carried, submitted_on, holds_with, memory_holds, stands_carried, sound_carried, down_carried}
+use Rattle.core_state.proofs.Fits.{put_fits}
 use Rattle.core_state.proofs.HeldEvents.{submit_held}
 use Rattle.core_state.proofs.PlainHistories.{plain_with}
 use Rattle.core_state.proofs.Ports.{Ports}
@@ -227,7 +228,7 @@ module _ {D K : Type 0} (p : Ports D K) (c : Command) (old new : CoreState D K) 
 
     pub submit_writes : (result : Submitted) → Does result → Writes result
     submit_writes (submitted.Receipt r) d =
-        subst (λ n. Writes (submitted.Receipt n)) (sym d.2) (d.3.last, d.3.put.grew refl, d.3.put.queued_one refl)
+        subst (λ n. Writes (submitted.Receipt n)) (sym d.2) (d.3.last, d.3.put.grew refl, d.3.put.queued_one refl, put_fits p old.queue new.queue (queue.Submit (old.last + 1) c) d.3.put)
     submit_writes submitted.Full d = same_log d.2
     submit_writes submitted.QueueFault d = faulty_log d.2.0 d.2.1 d.2.2
     submit_writes submitted.Spent d = stayed_log d.2

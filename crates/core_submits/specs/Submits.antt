@@ -5,6 +5,7 @@ use Rattle.core_state.specs.fleet_ports.declared.disk.Disk as disk
 use Rattle.core_state.specs.fleet_rows.declared.command.Command.{Command}
 use Rattle.core_state.specs.record_spec.declared.queue.QueueRecord.TheVariants as queue
 use Rattle.core_state.specs.record_spec.Queue.{queue_text}
+use Rattle.core_state.specs.log_spec.Limits.{most_log}
 use Rattle.core_state.specs.fleet_keeper.declared.kept.Kept.{Kept}
 use Rattle.core_state.specs.fleet_keeper.declared.kept.Kept.TheVariants as kept
 use Rattle.core_state.specs.fleet_keeper.Kept.{IsFaulty}
@@ -120,10 +121,11 @@ SubmitDoes tells seen may_leave moment left_since faults keeper_down submitted.M
 abbrev pub DoesSubmit : {D K : Type 0} → disk.Ghosts D → keeper.Ghosts K → Submitted → Command → CoreState D K → CoreState D K → Type 0
 DoesSubmit d k = SubmitDoes d.is_told d.seen d.may_leave d.moment d.left_since d.fault_count k.down
 
--- After a receipt, the log has the command's record at its end, and grew by its frame. After any other answer the log's size is
--- unchanged, and so are its records, if the log isn't down.
+-- After a receipt, the log has the command's record at its end, grew by its frame, and has at most 2^62 bytes. After any other
+-- answer the log's size is unchanged, and so are its records, if the log isn't down.
 abbrev pub SubmitWrites : {D K : Type 0} → Bool → (D → List ℕ) → Submitted → Command → CoreState D K → CoreState D K → Type 0
 SubmitWrites tells seen (submitted.Receipt r) c old new =
     (new.last ≡ r) × (queue_size new.queue ≡ queue_size old.queue + 5 + length (queue_text (queue.Submit r c))) × (IsTrue tells → queued seen new.queue ≡ with_one (queued seen old.queue) (queue.Submit r c))
+    × (queue_size new.queue ≤ most_log)
 SubmitWrites tells seen _ c old new =
     (new.last ≡ old.last) × (queue_size new.queue ≡ queue_size old.queue) × (queue_down new.queue ≡ false → IsTrue tells → queued seen new.queue ≡ queued seen old.queue)

@@ -34,6 +34,7 @@ use Rattle.core_state.specs.Seen.{events_of, held_of, claimed_number, IsSubmitte
 use Rattle.core_state.specs.Spelling.{HasSpelling}
 use Rattle.core_state.specs.StandsFor.{HoldsFor, StandsAt, one, history_of}
 use Rattle.core_state.proofs.Carried.{same_stays, submitted_carried, submitted_on, holds_with, holds_of, stands_carried, sound_carried, down_carried}
+use Rattle.core_state.proofs.Fits.{kept_fits}
 use Rattle.core_state.proofs.HeldEvents.{still_held, sweep_held}
 use Rattle.core_state.proofs.PlainHistories.{plain_with}
 use Rattle.core_state.proofs.Ports.{Ports, keeper_stays}
@@ -102,7 +103,7 @@ module _ {D K : Type 0} (p : Ports D K) (kinds : Kinds) (m : ℤ) (old new : Cor
   same_written same = (ap p.store_size same, λ up told. ap p.kept same)
 
   pub sweep_writes : (a : Swept) → Does a → SweepWrites p.store_tells p.kept p.store_down p.store_size a kinds m old.store new.store
-  sweep_writes came.Ok d = (d.0.keeps.grew refl, d.0.keeps.kept_one refl)
+  sweep_writes came.Ok d = (d.0.keeps.grew refl, d.0.keeps.kept_one refl, kept_fits p old.store new.store (store.Swept kinds m) d.0.keeps)
   sweep_writes came.StoreFault d = (d.0.keeps.same_size (λ e. cc), λ up. d.0.keeps.kept_old tt)
   sweep_writes came.StoreDown d = (d.0.keeps.same_size (λ e. cc), λ up. never (p.store_down new.store) (d.0.keeps.down.1 refl) up)
   sweep_writes came.Spent d = (d.0.keeps.same_size (λ e. cc), λ up. d.0.keeps.kept_old tt)

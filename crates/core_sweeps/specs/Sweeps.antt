@@ -8,6 +8,7 @@ use Rattle.core_state.specs.fleet_tables.Stands.{Stands}
 use Rattle.core_state.specs.record_spec.declared.store.StoreRecord.{StoreRecord}
 use Rattle.core_state.specs.record_spec.declared.store.StoreRecord.TheVariants as store
 use Rattle.core_state.specs.record_spec.Store.{store_text}
+use Rattle.core_state.specs.log_spec.Limits.{most_log}
 use Rattle.core_state.specs.fleet_keeper.declared.kept.Kept.{Kept}
 use Rattle.core_state.specs.fleet_keeper.declared.kept.Kept.TheVariants as kept
 use Rattle.core_state.specs.fleet_keeper.Records.{with_one}
@@ -29,11 +30,11 @@ SweepAdds _ kinds m old new = new ≡ old
 abbrev pub IsSweep : Kinds → ℤ → History → History → History → Type 0
 IsSweep kinds m before upto begun = (upto ≡ before) × (begun ≡ Sweep kinds m ∷ [])
 
--- After Ok the store has the sweep at its end, and its log grew by the frame. After any other answer the log's size is unchanged,
--- and so are its records, if the store isn't down.
+-- After Ok the store has the sweep at its end. Its log grew by the frame, and has at most 2^62 bytes. After any other answer the
+-- log's size is unchanged, and so are its records, if the store isn't down.
 abbrev pub SweepWrites : {K : Type 0} → Bool → (K → Option (List StoreRecord)) → (K → Bool) → (K → ℕ) → Swept → Kinds → ℤ → K → K → Type 0
 SweepWrites tells kept_in down size came.Ok kinds m old new =
-    (size new ≡ size old + 5 + length (store_text (store.Swept kinds m))) × (IsTrue tells → kept_in new ≡ with_one (kept_in old) (store.Swept kinds m))
+    (size new ≡ size old + 5 + length (store_text (store.Swept kinds m))) × (IsTrue tells → kept_in new ≡ with_one (kept_in old) (store.Swept kinds m)) × (size new ≤ most_log)
 SweepWrites tells kept_in down size _ kinds m old new = (size new ≡ size old) × (down new ≡ false → IsTrue tells → kept_in new ≡ kept_in old)
 
 -- the same, with the ghosts of the trait as one value
