@@ -90,6 +90,8 @@ module _ {D K : Type 0} (w : Sight D K) where
       counts = counts_join a b c p.counts q.counts;
       stays_down = λ down. q.stays_down (p.stays_down down);
       queue_twice = twice_join (queue_down b.queue) refl;
+      queue_fits = λ short. q.queue_fits (p.queue_fits short);
+      store_fits = λ short. q.store_fits (p.store_fits short);
       logs = λ up. logs_join (p.logs (up_before second b c q up)) (q.logs up);
     }
 

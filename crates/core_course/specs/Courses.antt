@@ -9,7 +9,8 @@ use Rattle.core_state.specs.core_spec.declared.event.Event.{Event}
 use Rattle.core_state.specs.core_spec.declared.event.Event.TheVariants.{Claim, Release, Supersede, Fail, Discard}
 use Rattle.core_state.specs.core_spec.History.{History}
 use Rattle.core_state.specs.core_spec.Stands.{queue_trace, store_trace}
-use Rattle.core_state.specs.queue_log.Queued.{queue_pair, queue_moment, queue_down, queued}
+use Rattle.core_state.specs.log_spec.Limits.{most_log}
+use Rattle.core_state.specs.queue_log.Queued.{queue_pair, queue_moment, queue_down, queue_size, queued}
 use Rattle.core_state.specs.declared.state.CoreState.{CoreState}
 use Rattle.core_state.specs.Moments.{IsLater, Within, GoesOn, StandsAmid}
 use Rattle.core_state.specs.Puts.{QueueRoseTwice}
@@ -135,4 +136,7 @@ pub record Passed {D K : Type 0} (w : Sight D K) (more : History) (old new : Cor
   pub stays_down : is_down w old ≡ true → is_down w new ≡ true
   -- if the queue's log went down, the fault count of one of its disks rose by two
   pub queue_twice : queue_down old.queue ≡ false → queue_down new.queue ≡ true → QueueRoseTwice w.faults old.queue new.queue
+  -- no log outgrows 2^62 bytes
+  pub queue_fits : queue_size old.queue ≤ most_log → queue_size new.queue ≤ most_log
+  pub store_fits : w.store_size old.store ≤ most_log → w.store_size new.store ≤ most_log
   pub logs : is_down w new ≡ false → LogsGrow w more old new

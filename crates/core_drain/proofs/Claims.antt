@@ -11,7 +11,7 @@ use Rattle.command_core.specs.core_laws.Threads.{MomentsAreKept}
 use Rattle.command_core.specs.core_state.declared.state.CoreState.{CoreState}
 use Rattle.command_core.specs.core_state.Changes.{OthersStay}
 use Rattle.command_core.specs.core_state.Moments.{Within, StandsAmid}
-use Rattle.command_core.specs.core_state.Puts.{QueueCounts}
+use Rattle.command_core.specs.core_state.Puts.{QueueCounts, QueueRoseTwice}
 use Rattle.command_core.specs.core_state.Seen.{IsSubmitted}
 use Rattle.command_core.specs.core_state.StandsFor.{AreOfOneRecord, one, history_of}
 use Rattle.command_core.specs.core_claims.declared.answers.Claimed.{Claimed}
@@ -20,9 +20,10 @@ use Rattle.command_core.specs.core_claims.Claims.{IsSuperseding, OnlySupersede, 
 use Rattle.core_course.specs.Sight.{Sight, Stood, is_down}
 use Rattle.core_course.specs.Courses.{DisksGo, Passed}
 use Rattle.core_course.specs.Work.{IsWork, Worked}
-use Rattle.core_drain.proofs.Links.{core_up, written, same_opening, queue_counts, same_faults, work_of}
+use Rattle.core_drain.proofs.Links.{core_up, written, same_opening, queue_counts, same_faults, work_of, went_twice, same_store_fits}
 use Rattle.core_drain.proofs.OneCalls.{claimed_at_once}
 use Rattle.core_drain.proofs.Records.{none_more}
+use Rattle.command_core.specs.queue_log.Queued.{queue_down}
 
 -- ---- supersedings, and the claim behind them
 
@@ -133,6 +134,8 @@ module _ {D K : Type 0} (w : Sight D K) where
       counts = queue_counts w (came ≡ claimed.QueueFault) old new says.cause (same_faults w old new says.store);
       stays_down = still_down;
       queue_twice = went_twice w old new (λ down. says.unchanged (says.down.1 down)) says.twice;
+      queue_fits = says.adds.within;
+      store_fits = same_store_fits w old new says.store;
       logs = λ up. record {
         queue = λ told records is.
             says.adds.records (core_up w new up).queue told records is ∙ ap (λ (xs : List QueueRecord). Some (records ++ xs)) (sym (claim_queue came says.adds.more));

@@ -6,7 +6,7 @@ use Rattle.command_core.specs.record_spec.declared.store.StoreRecord.{StoreRecor
 use Rattle.command_core.specs.core_spec.History.{History}
 use Rattle.command_core.specs.core_laws.Threads.{MomentsAreKept}
 use Rattle.command_core.specs.queue_log.declared.queue.QueueLog.{QueueLog}
-use Rattle.command_core.specs.queue_log.Queued.{queue_pair, queue_down}
+use Rattle.command_core.specs.queue_log.Queued.{queue_pair, queue_down, queue_size}
 use Rattle.core_course.specs.table_machine.Table.{Table}
 use Rattle.command_core.specs.core_state.declared.state.CoreState.{CoreState}
 use Rattle.command_core.specs.core_state.Changes.{OthersStay}
@@ -18,6 +18,7 @@ use Rattle.core_course.specs.Courses.{DisksGo, silent, writes, AreOfOneCall, Lin
 use Rattle.core_course.specs.Work.{IsWork, Worked}
 use Rattle.core_course.proofs.Stretches.{course_of_one}
 use Rattle.command_core.proofs.of_core_state.Standing.{IsUp, up_parts}
+use Rattle.command_core.specs.log_spec.Limits.{most_log}
 
 -- ---- whether it is down
 
@@ -96,6 +97,13 @@ module _ {D K : Type 0} (w : Sight D K) where
   -- nor in one that leaves the queue
   pub same_twice : (old new : CoreState D K) → new.queue ≡ old.queue → queue_down old.queue ≡ false → queue_down new.queue ≡ true → QueueRoseTwice w.faults old.queue new.queue
   same_twice old new queue up down = absurd (let apart : true ≡ false = sym down ∙ (ap queue_down queue ∙ up) in cc)
+
+  -- a log that stays doesn't outgrow its limit
+  pub same_queue_fits : (old new : CoreState D K) → new.queue ≡ old.queue → queue_size old.queue ≤ most_log → queue_size new.queue ≤ most_log
+  same_queue_fits old new same short = let size = ap queue_size same in omega (arith, size, short)
+
+  pub same_store_fits : (old new : CoreState D K) → new.store ≡ old.store → w.store_size old.store ≤ most_log → w.store_size new.store ≤ most_log
+  same_store_fits old new same short = let size = ap w.store_size same in omega (arith, size, short)
 
   -- ---- as a stretch
 

@@ -18,7 +18,7 @@ use Rattle.command_core.specs.core_claims.Frees.{AreReleases, Releases}
 use Rattle.core_course.specs.Sight.{Sight, Stood, is_down}
 use Rattle.core_course.specs.Courses.{silent, Passed}
 use Rattle.core_course.specs.Work.{IsWork, Worked}
-use Rattle.core_drain.proofs.Links.{same_down, same_opening, same_counts, work_of}
+use Rattle.core_drain.proofs.Links.{same_down, same_opening, same_counts, work_of, same_twice, same_queue_fits, same_store_fits}
 use Rattle.core_drain.proofs.OneCalls.{released_at_once}
 use Rattle.core_drain.proofs.Records.{none_more}
 
@@ -96,6 +96,8 @@ module _ {D K : Type 0} (w : Sight D K) where
       counts = same_counts w old new quiet.queue quiet.store;
       stays_down = λ down. quiet_down ∙ down;
       queue_twice = same_twice w old new quiet.queue;
+      queue_fits = same_queue_fits w old new quiet.queue;
+      store_fits = same_store_fits w old new quiet.store;
       logs = λ up. record {
         queue = λ told records is.
             none_more (queued w.seen old.queue) (queued w.seen new.queue) records (ap (queued w.seen) quiet.queue) is

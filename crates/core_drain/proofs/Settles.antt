@@ -1,5 +1,5 @@
 -- A command that is settled.
-use Rattle.std.proofs.Common.{◌≡◌, ◌∙◌, ◌↔◌, inl, inr, ℕ, ◌≤◌, Bool, true, false, List, [], ◌∷◌, ◌++◌, Option, Some, Result, Ok, IsTrue, sym, ap, subst}
+use Rattle.std.proofs.Common.{◌≡◌, ◌∙◌, ◌↔◌, inl, inr, ℕ, ◌≤◌, Bool, true, false, List, [], ◌∷◌, ◌++◌, Option, Some, None, Result, Ok, IsTrue, arith, sym, ap, subst}
 use Rattle.std.specs.Option.{option_map}
 use Rattle.command_decode.specs.fleet_rows.declared.change.Change.{Change}
 use Rattle.command_decode.specs.fleet_rows.declared.command.Command.{Command}
@@ -15,12 +15,12 @@ use Rattle.command_core.specs.core_spec.History.{History, command}
 use Rattle.command_core.specs.core_spec.Stands.{change_part, queue_trace, store_trace}
 use Rattle.command_core.specs.core_laws.Threads.{MomentsAreKept}
 use Rattle.command_core.specs.queue_log.declared.queue.QueueLog.{QueueLog}
-use Rattle.command_core.specs.queue_log.Queued.{queued, queue_down}
+use Rattle.command_core.specs.queue_log.Queued.{queued, queue_down, queue_size}
 use Rattle.command_core.specs.core_claims.declared.job.Job.{Job}
 use Rattle.command_core.specs.core_state.declared.state.CoreState.{CoreState}
 use Rattle.command_core.specs.core_state.Changes.{OpeningStays}
 use Rattle.command_core.specs.core_state.Moments.{Within, StandsAmid}
-use Rattle.command_core.specs.core_state.Puts.{QueueCounts}
+use Rattle.command_core.specs.core_state.Puts.{QueueCounts, QueueRoseTwice}
 use Rattle.command_core.specs.core_state.Seen.{IsSubmitted}
 use Rattle.command_core.specs.core_state.StandsFor.{AreOfOneRecord, one, sixteenth, history_of}
 use Rattle.command_core.proofs.of_core_state.Submissions.{submitted_command}
@@ -32,9 +32,10 @@ use Rattle.command_core.specs.core_settles.Settles.{IsVerdictOf, IsSettling, set
 use Rattle.core_course.specs.Sight.{Sight, Stood, is_down}
 use Rattle.core_course.specs.Courses.{DisksGo, SameOpening, LogsGrow, Passed}
 use Rattle.core_course.specs.Work.{IsWork, KeepsMoments, Worked}
-use Rattle.core_drain.proofs.Links.{core_up, written, queue_counts, work_course}
+use Rattle.core_drain.proofs.Links.{core_up, written, queue_counts, work_course, went_twice}
 use Rattle.core_drain.proofs.OneCalls.{settled_at_once}
 use Rattle.core_drain.proofs.Records.{none_more, one_more}
+use Rattle.command_core.specs.log_spec.Limits.{most_log}
 
 -- ---- its events
 
@@ -128,6 +129,18 @@ module _ {K : Type 0} (tells : Bool) (kept : K → Option (List StoreRecord)) (d
   store_grows settled.Down v decodes h = same_store h.1
   store_grows (settled.Memory given u) v decodes h = same_store h.1
 
+-- ---- its sizes
+
+queue_short : {D : Type 0} (tells : Bool) (seen : D → List ℕ) (rec : Option QueueRecord) (old new : QueueLog D) → QueueWrites tells seen rec old new → queue_size old ≤ most_log → queue_size new ≤ most_log
+queue_short tells seen (Some rec) old new h short = h.2
+queue_short tells seen None old new h short = let same = h.0 in omega (arith, same, short)
+
+store_short : {K : Type 0} (tells : Bool) (kept : K → Option (List StoreRecord)) (down : K → Bool) (size : K → ℕ) (stored : Bool) (job : Job) (v : Verdict) (old new : K)
+    → StoreWrites tells kept down size stored job v old new → size old ≤ most_log → size new ≤ most_log
+store_short tells kept down size true job (verdict.Change change) old new h short = h.2
+store_short tells kept down size true job (verdict.Refused refusal) old new h short = absurd h
+store_short tells kept down size false job v old new h short = let same = h.0 in omega (arith, same, short)
+
 -- ---- the call
 
 module _ {D K : Type 0} (w : Sight D K) where
@@ -206,6 +219,8 @@ module _ {D K : Type 0} (w : Sight D K) where
       counts = queue_counts w (came ≡ settled.QueueFault) old new says.cause says.store_later;
       stays_down = still_down;
       queue_twice = went_twice w old new unchanged says.twice;
+      queue_fits = queue_short w.tells w.seen (queue_record came job v before now) old.queue new.queue says.queue_writes;
+      store_fits = store_short w.store_tells w.kept w.store_down w.store_size (is_applied came new.undone) job v old.store new.store says.store_writes;
       logs = λ up. subst (λ (more : History). LogsGrow w more old new) (events_up up) (up_logs up);
     }
 

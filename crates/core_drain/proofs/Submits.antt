@@ -1,5 +1,5 @@
 -- A command that comes in.
-use Rattle.std.proofs.Common.{◌≡◌, ◌∙◌, ◌↔◌, ℕ, ◌+◌, true, false, List, [], ◌∷◌, ◌++◌, Some, IsTrue, refl, sym, ap}
+use Rattle.std.proofs.Common.{◌≡◌, ◌∙◌, ◌↔◌, ℕ, ◌+◌, true, false, List, [], ◌∷◌, ◌++◌, Some, IsTrue, refl, sym, ap, ◌≤◌, arith}
 use Rattle.command_decode.specs.fleet_rows.declared.command.Command.{Command}
 use Rattle.command_core.specs.record_spec.declared.queue.QueueRecord.{QueueRecord}
 use Rattle.command_core.specs.record_spec.declared.queue.QueueRecord.TheVariants as queue
@@ -7,11 +7,11 @@ use Rattle.command_core.specs.record_spec.declared.store.StoreRecord.{StoreRecor
 use Rattle.command_core.specs.core_spec.declared.event.Event.TheVariants.{Submit}
 use Rattle.command_core.specs.core_spec.History.{History}
 use Rattle.command_core.specs.core_spec.Stands.{queue_trace, store_trace}
-use Rattle.command_core.specs.queue_log.Queued.{queued, queue_down}
+use Rattle.command_core.specs.queue_log.Queued.{queued, queue_down, queue_size}
 use Rattle.command_core.specs.core_state.declared.state.CoreState.{CoreState}
 use Rattle.command_core.specs.core_state.Changes.{OthersStay}
 use Rattle.command_core.specs.core_state.Moments.{Within, StandsAmid}
-use Rattle.command_core.specs.core_state.Puts.{QueueCounts}
+use Rattle.command_core.specs.core_state.Puts.{QueueCounts, QueueRoseTwice}
 use Rattle.command_core.specs.core_state.Seen.{IsSubmitted}
 use Rattle.command_core.specs.core_state.StandsFor.{one, history_of}
 use Rattle.fleet_rows.specs.declared.submitted.Submitted.{Submitted}
@@ -19,8 +19,9 @@ use Rattle.fleet_rows.specs.declared.submitted.Submitted.TheVariants as answer
 use Rattle.command_core.specs.core_submits.Submits.{IsSubmitOf, SubmitAdds, SubmitWrites}
 use Rattle.core_course.specs.Sight.{Sight, Stood, is_down}
 use Rattle.core_course.specs.Courses.{DisksGo, Link, Passed, AreOfOneCall, no_event, one_event}
-use Rattle.core_drain.proofs.Links.{core_up, written, same_opening, queue_counts, same_faults, link_of}
+use Rattle.core_drain.proofs.Links.{core_up, written, same_opening, queue_counts, same_faults, link_of, went_twice, same_store_fits}
 use Rattle.core_drain.proofs.Records.{none_more, one_more}
+use Rattle.command_core.specs.log_spec.Limits.{most_log}
 
 -- the events of an answer
 abbrev pub submit_events : Submitted → Command → History
@@ -65,6 +66,14 @@ module _ {D K : Type 0} (w : Sight D K) where
   queues answer.Down c old new h up told records is = none_more (queued w.seen old.queue) (queued w.seen new.queue) records (h.2 up told) is
   queues answer.Memory c old new h up told records is = none_more (queued w.seen old.queue) (queued w.seen new.queue) records (h.2 up told) is
 
+  fits : (came : Submitted) (c : Command) (old new : CoreState D K) → SubmitWrites w.tells w.seen came c old new → queue_size old.queue ≤ most_log → queue_size new.queue ≤ most_log
+  fits (answer.Receipt r) c old new h short = h.3
+  fits answer.Full c old new h short = let same = h.1 in omega (arith, same, short)
+  fits answer.QueueFault c old new h short = let same = h.1 in omega (arith, same, short)
+  fits answer.Spent c old new h short = let same = h.1 in omega (arith, same, short)
+  fits answer.Down c old new h short = let same = h.1 in omega (arith, same, short)
+  fits answer.Memory c old new h short = let same = h.1 in omega (arith, same, short)
+
   -- the clauses of a submit
   pub record SubmitSays (came : Submitted) (c : Command) (old new : CoreState D K) : Type 0 where
     pub adds : SubmitAdds came c old.last old.events.list new.events.list
@@ -94,6 +103,8 @@ module _ {D K : Type 0} (w : Sight D K) where
       counts = queue_counts w (came ≡ answer.QueueFault) old new says.cause (same_faults w old new says.store);
       stays_down = still_down;
       queue_twice = went_twice w old new (λ down. says.unchanged (says.down.1 down)) says.twice;
+      queue_fits = fits came c old new says.writes;
+      store_fits = same_store_fits w old new says.store;
       logs = λ up. record {
         queue = λ told records is. queues came c old new says.writes (core_up w new up).queue told records is;
         store = λ start stood told records is.

@@ -1,5 +1,5 @@
 -- A sweep.
-use Rattle.std.proofs.Common.{◌≡◌, ◌∙◌, ◌↔◌, ℕ, ℤ, true, false, List, [], ◌∷◌, ◌++◌, Some, IsTrue, arith, refl, sym, ap}
+use Rattle.std.proofs.Common.{◌≡◌, ◌∙◌, ◌↔◌, ℕ, ℤ, true, false, List, [], ◌∷◌, ◌++◌, Some, IsTrue, arith, refl, sym, ap, ◌≤◌}
 use Rattle.core_course.specs.fleet_ports.Counts.{Counts}
 use Rattle.command_decode.specs.fleet_rows.declared.command.Command.{Command}
 use Rattle.command_decode.specs.fleet_rows.declared.settings.Kinds.{Kinds}
@@ -22,8 +22,9 @@ use Rattle.command_core.specs.core_sweeps.declared.answers.Swept.TheVariants as 
 use Rattle.command_core.specs.core_sweeps.Sweeps.{SweepAdds, IsSweep, IsStoreFault, SweepWrites}
 use Rattle.core_course.specs.Sight.{Sight, Stood, is_down}
 use Rattle.core_course.specs.Courses.{DisksGo, Link, Passed, AreOfOneCall, no_event, one_event}
-use Rattle.core_drain.proofs.Links.{core_up, written, link_of}
+use Rattle.core_drain.proofs.Links.{core_up, written, link_of, same_twice, same_queue_fits}
 use Rattle.core_drain.proofs.Records.{none_more, one_more}
+use Rattle.command_core.specs.log_spec.Limits.{most_log}
 
 -- the events of an answer
 abbrev pub sweep_events : Swept → Kinds → ℤ → History
@@ -85,6 +86,14 @@ module _ {D K : Type 0} (w : Sight D K) where
     stores came_as.Down upto h = none_more (w.kept old.store) (w.kept new.store) records (h.1 up told) is
     stores came_as.Memory upto h = none_more (w.kept old.store) (w.kept new.store) records (h.1 up told) is
 
+  fits : (came : Swept) (kinds : Kinds) (m : ℤ) (old new : K) → SweepWrites w.store_tells w.kept w.store_down w.store_size came kinds m old new → w.store_size old ≤ most_log → w.store_size new ≤ most_log
+  fits came_as.Ok kinds m old new h short = h.2
+  fits came_as.StoreFault kinds m old new h short = let same = h.0 in omega (arith, same, short)
+  fits came_as.StoreDown kinds m old new h short = let same = h.0 in omega (arith, same, short)
+  fits came_as.Spent kinds m old new h short = let same = h.0 in omega (arith, same, short)
+  fits came_as.Down kinds m old new h short = let same = h.0 in omega (arith, same, short)
+  fits came_as.Memory kinds m old new h short = let same = h.0 in omega (arith, same, short)
+
   module _ (came : Swept) (kinds : Kinds) (m : ℤ) (old new : CoreState D K) (says : SweepSays came kinds m old new) where
     still_down : is_down w old ≡ true → is_down w new ≡ true
     still_down down = ap (is_down w) (says.unchanged (says.down.1 down)) ∙ down
@@ -108,6 +117,8 @@ module _ {D K : Type 0} (w : Sight D K) where
           record { queue_a = omega (arith, a); queue_b = omega (arith, b); store = says.cause.later };
       stays_down = still_down;
       queue_twice = same_twice w old new says.queue;
+      queue_fits = same_queue_fits w old new says.queue;
+      store_fits = fits came kinds m old.store new.store says.writes;
       logs = λ up. record {
         queue = λ told records is.
             none_more (queued w.seen old.queue) (queued w.seen new.queue) records (ap (queued w.seen) says.queue) is

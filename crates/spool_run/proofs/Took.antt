@@ -37,6 +37,8 @@ module _ {D K : Type 0} (w : Sight D K) (now : ℤ) (bytes : Option (List ℕ)) 
     counts = record { queue_a = omega arith; queue_b = omega arith; store = omega arith };
     stays_down = λ down. down;
     queue_twice = λ up down. absurd (let apart : true ≡ false = sym down ∙ up in cc);
+    queue_fits = λ short. short;
+    store_fits = λ short. short;
     logs = λ up. record {
       queue = λ told records is. is ∙ ap (λ (xs : List QueueRecord). Some xs) (sym (append-nil records));
       store = λ start stood told records is. is ∙ ap (λ (xs : List StoreRecord). Some xs) (sym (append-nil records));
