@@ -11,3 +11,6 @@
 mod patterns;
 
 pub use patterns::{Compiled, RegexPatterns};
+
+// The keys of hashes, for callers that make a reader.
+pub use pattern_port::Keys;
