@@ -7,7 +7,7 @@ use Rattle.checkpoint_spec.specs.table_machine.Table.{Node}
 use Rattle.fleet_tables.specs.Groups.{joined, AreBelow, AreAbove, AreFew}
 use Rattle.kept_nodes.specs.Places.{reports_of}
 use Rattle.kept_nodes.specs.Computed.{IsShownFor}
-use Rattle.fleet_tables.specs.Rooms.{IsNewFor, IsRoomAt}
+use Rattle.fleet_tables.specs.Rooms.{IsNew, IsNewFor, IsRoomAt}
 use Rattle.fleet_tables.specs.declared.room.NewNode.{NewNode}
 use Rattle.kept_nodes.specs.declared.computed.Derived.{Derived}
 use Rattle.fleet_tables.proofs.JoinedNodes.{Groups, parted, found_in, put_parted}

@@ -5,7 +5,6 @@ use Rattle.std.specs.Vec.{vec_capacity}
 use Rattle.std.proofs.Common.{refl}
 use Rattle.checkpoint_spec.specs.fleet_rows.Change.{change_certname}
 use Rattle.checkpoint_spec.specs.fleet_rows.declared.change.Change.{Change}
-use Rattle.checkpoint_spec.specs.fleet_rows.declared.change.Change.TheVariants as change
 use Rattle.checkpoint_spec.specs.fleet_rows.declared.row.Entity.{Entity}
 use Rattle.checkpoint_spec.specs.fleet_rows.declared.row.Entity.TheVariants.{Factsets, Facts, Catalogs, Resources, Edges, Reports}
 use Rattle.checkpoint_spec.specs.table_machine.Table.{Node, Table}
@@ -14,7 +13,6 @@ use Rattle.checkpoint_spec.specs.table_spec.Rows.{Cells, factset_rows, fact_rows
 use Rattle.fleet_tables.specs.declared.room.NewNode.{NewNode}
 use Rattle.kept_nodes.specs.declared.computed.Derived.{Derived}
 use Rattle.fleet_tables.specs.declared.room.Spare.{Spare}
-use Rattle.kept_nodes.specs.declared.computed.Derived.TheVariants as shown
 use Rattle.kept_nodes.specs.Seen.{node_seen}
 use Rattle.kept_nodes.specs.Kept.{IsNode}
 use Rattle.kept_nodes.specs.Computed.{HasRoomFor, IsShownFor, with_reports}

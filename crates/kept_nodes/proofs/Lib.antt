@@ -1,5 +1,6 @@
 mod Printable
 mod PackedLaws
+mod ShownHashes
 pub mod NodePlaces
 pub mod Counting
 pub mod RowCounts
@@ -19,3 +20,4 @@ pub mod OrderedRuns
 pub mod SnapshotLaws
 -- What those above use of the crates below.
 pub use Rattle.packed_values.proofs as of_packed_values
+pub use Rattle.packed_shown.proofs as of_packed_shown

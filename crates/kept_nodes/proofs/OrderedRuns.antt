@@ -34,10 +34,7 @@ module _ (c : FactsChange) (order : List ℕ) (name : List ℕ) (past : Bool) (h
   pub facts_most : number (λ fact. is_before past (name_rank name fact)) c.values ≤ length order
   facts_most = most_before rank past c.values order members h ranked same
 
-  module _ (j place : ℕ) (r : Ordering) (within : j < length order) (is : place ≡ get_or order j place) (found : option_map (name_rank name) (slice_get c.values place) ≡ Some r) where
-    there : slice_get order j ≡ Some place
-    there = slice_get_read order (length order) j place refl within is
-
+  module _ (j place : ℕ) (r : Ordering) (there : slice_get order j ≡ Some place) (found : option_map (name_rank name) (slice_get c.values place) ≡ Some r) where
     pub fact_low : is_before past r ≡ true → j + 1 ≤ number (λ fact. is_before past (name_rank name fact)) c.values
     fact_low t = low_enough rank past c.values order members h ranked same j place r there found t
 
@@ -60,16 +57,13 @@ module _ (resources : List Resource) (order : List ℕ) (rtype : List ℕ) (titl
   pub resources_most : number (λ resource. is_before past (resource_rank rtype title resource)) resources ≤ length order
   resources_most = most_before kind_rank past resources order sorted h kinds_ranked kinds_same
 
-  module _ (j place : ℕ) (resource : Resource) (r : Ordering) (within : j < length order) (is : place ≡ get_or order j place) (inside : place < length resources) (at : resource ≡ get_or resources place resource)
+  module _ (j place : ℕ) (resource : Resource) (r : Ordering) (there : slice_get order j ≡ Some place) (inside : place < length resources) (at : resource ≡ get_or resources place resource)
       (found : r ≡ resource_rank rtype title resource) where
-    stands : slice_get order j ≡ Some place
-    stands = slice_get_read order (length order) j place refl within is
-
     shows : option_map kind_rank (slice_get resources place) ≡ Some r
     shows = ap (option_map kind_rank) (slice_get_read resources (length resources) place resource refl inside at) ∙ ap (λ x. Some x) (sym found)
 
     pub resource_low : is_before past r ≡ true → j + 1 ≤ number (λ resource. is_before past (resource_rank rtype title resource)) resources
-    resource_low t = low_enough kind_rank past resources order sorted h kinds_ranked kinds_same j place r stands shows t
+    resource_low t = low_enough kind_rank past resources order sorted h kinds_ranked kinds_same j place r there shows t
 
     pub resource_high : is_before past r ≡ false → number (λ resource. is_before past (resource_rank rtype title resource)) resources ≤ j
-    resource_high t = high_enough kind_rank past resources order sorted h kinds_ranked kinds_same j place r stands shows t
+    resource_high t = high_enough kind_rank past resources order sorted h kinds_ranked kinds_same j place r there shows t

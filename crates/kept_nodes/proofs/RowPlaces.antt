@@ -69,9 +69,9 @@ order_at xs (o ∷ os) (s ∷ ss) (suc j) place e h = let rest : map (slice_get 
 
 -- ---- rows in an order that is kept
 
-module _ {X : Type 0} (xs : List X) (order : List ℕ) (sorted : List X) (e : map (slice_get xs) order ≡ map Some sorted) (j place : ℕ) (within : j < length order) (is : place ≡ get_or order j place) where
+module _ {X : Type 0} (xs : List X) (order : List ℕ) (sorted : List X) (e : map (slice_get xs) order ≡ map Some sorted) (j place : ℕ) (there : slice_get order j ≡ Some place) where
   ordered : (x : X) × (slice_get xs place ≡ Some x) × (slice_get sorted j ≡ Some x)
-  ordered = order_at xs order sorted j place e (slice_get_read order (length order) j place refl within is)
+  ordered = order_at xs order sorted j place e there
 
   pub place_inside : place < length xs
   place_inside = slice_get_within xs place ordered.0 ordered.1
@@ -87,7 +87,7 @@ module _ {X : Type 0} (xs : List X) (order : List ℕ) (sorted : List X) (e : ma
       (made.0, slice_get-map cells sorted j ∙ ap (option_map cells) (ordered_is x h) ∙ ap (λ c. Some c) (sym made.1))
   row_in_order cells entity x (Err err) h made = tt
 
-module _ (c : FactsChange) (order : List ℕ) (j place : ℕ) (h : IsFactOrder order c) (within : j < length order) (is : place ≡ get_or order j place) where
+module _ (c : FactsChange) (order : List ℕ) (j place : ℕ) (h : IsFactOrder order c) (there : slice_get order j ≡ Some place) where
   abbrev members : List (List ℕ × Json)
   members = members_list (by_name c.values)
 
@@ -95,7 +95,7 @@ module _ (c : FactsChange) (order : List ℕ) (j place : ℕ) (h : IsFactOrder o
   fact_of m = record { certname = c.certname; environment = c.environment; name = m.0; value = m.1 }
 
   pub fact_inside : place < length c.values
-  fact_inside = place_inside c.values order members h j place within is
+  fact_inside = place_inside c.values order members h j place there
 
   fact_made : (r : Result Row AllocError) (m : List ℕ × Json) → slice_get c.values place ≡ Some m → IfOk r (λ row. (row.entity ≡ Facts) × (Some row.cells ≡ option_map (member_cells c) (slice_get c.values place))) → IfOk r (λ row. IsRow row Facts (member_cells c m))
   fact_made (Ok row) m e made = (made.0, same_Some row.cells (member_cells c m) (made.1 ∙ ap (option_map (member_cells c)) e))
@@ -103,14 +103,14 @@ module _ (c : FactsChange) (order : List ℕ) (j place : ℕ) (h : IsFactOrder o
 
   pub fact_row_is : (r : Result Row AllocError) → IfOk r (λ row. (row.entity ≡ Facts) × (Some row.cells ≡ option_map (member_cells c) (slice_get c.values place))) → IfOk r (λ row. IsRowAt row Facts (fact_rows (change.Facts c)) j)
   fact_row_is r made =
-      let m = ordered c.values order members h j place within is in
+      let m = ordered c.values order members h j place there in
       subst (λ list. IfOk r (λ row. IsRowAt row Facts list j)) (sym (map-map fact_of fact_cells members))
-      (row_in_order c.values order members h j place within is (member_cells c) Facts m.0 r m.1 (fact_made r m.0 m.1 made))
+      (row_in_order c.values order members h j place there (member_cells c) Facts m.0 r m.1 (fact_made r m.0 m.1 made))
 
 -- what is computed of the element at a place
-pub image_at : {X Y : Type 0} (f : X → Y) (ys : List Y) (xs : List X) (j : ℕ) (y : Y) (x : X) → ys ≡ map f xs → j < length ys → y ≡ get_or ys j y → slice_get xs j ≡ Some x → y ≡ f x
-image_at f ys xs j y x e within is at =
-    same_Some y (f x) (sym (slice_get_read ys (length ys) j y refl within is) ∙ ap (λ l. slice_get l j) e ∙ slice_get-map f xs j ∙ ap (option_map f) at)
+pub image_at : {X Y : Type 0} (f : X → Y) (ys : List Y) (xs : List X) (j : ℕ) (y : Y) (x : X) → ys ≡ map f xs → slice_get ys j ≡ Some y → slice_get xs j ≡ Some x → y ≡ f x
+image_at f ys xs j y x e there at =
+    same_Some y (f x) (sym there ∙ ap (λ l. slice_get l j) e ∙ slice_get-map f xs j ∙ ap (option_map f) at)
 
 -- ---- the row of a report
 

@@ -39,19 +39,19 @@ IsEdgeOrder order edges = map (slice_get edges) order ≡ map Some (sorted_by ed
 
 abbrev pub AreResourcesShown : ResourcesShown → List Resource → Type 0
 AreResourcesShown shown resources =
-    IsResourceOrder shown.order.items resources
-    × (shown.hashes.items ≡ map (λ r. hash (resource_object r)) (sorted_by resource_cmp resources))
+    IsResourceOrder shown.order resources
+    × (shown.hashes ≡ map (λ r. hash (resource_object r)) (sorted_by resource_cmp resources))
 
 -- whatever is stored of the facts is correct
 abbrev pub IsFactsShown : FactsShown → FactsChange → Type 0
 IsFactsShown shown c =
-    IfSome shown.hash (λ h. h ≡ hash (factset_object c)) × IfSome shown.order (λ order. IsFactOrder order.items c)
+    IfSome shown.hash (λ h. h ≡ hash (factset_object c)) × IfSome shown.order (λ order. IsFactOrder order c)
 
 abbrev pub IsCatalogShown : CatalogShown → CatalogChange → Type 0
 IsCatalogShown shown c =
     IfSome shown.hash (λ h. h ≡ hash (catalog_object c))
     × IfSome shown.resources (λ r. AreResourcesShown r c.resources)
-    × IfSome shown.edge_order (λ order. IsEdgeOrder order.items c.edges)
+    × IfSome shown.edge_order (λ order. IsEdgeOrder order c.edges)
 
 -- ---- the stored commands
 

@@ -6,12 +6,12 @@ ghost use Rattle.kept_nodes.specs.Packed.{AreListsOf};
 ghost use Rattle.kept_nodes.specs.Computed.{IsShownOf, IsListFor, with_reports};
 ghost use Rattle.kept_nodes.specs.declared.computed.Derived.TheVariants as kinds;
 
-use crate::kept::{HeldReport, report_digest};
+use crate::kept::{HeldReport, report_hash};
 use crate::lists::room_for_more;
 use crate::packed::PackedLists;
 use crate::shown::{CatalogShown, FactsShown};
-use fleet_rows::json_tree::Text;
 use fleet_rows::{Change, ReportChange};
+use packed_shown::PackedHash;
 use std::alloc::{AllocError, Global};
 
 /// What the rows of a change show besides its fields, as far as it is computed.
@@ -26,8 +26,8 @@ pub enum Derived {
 #[derive(Drop)]
 pub struct ReportShown {
     pub lists: PackedLists,
-    /// The SHA-1 of the canonical text in hexadecimal, if it is computed.
-    pub hash: Option<Text>,
+    /// The SHA-1 of the canonical text, if it is computed.
+    pub hash: Option<PackedHash>,
     /// Memory for the report.
     pub held: HeldReport,
     /// Empty at first. Making room puts a list for one report more here.
@@ -67,7 +67,7 @@ fn report_shown(alloc: Global, change: &ReportChange) -> Result<ReportShown, All
     requires { IsReportChange change.now }
     ensures { IfOk result (λ s. IsShownOf (kinds.Report s) (changes.Report change.now)) }
 {
-    let hash = report_digest(alloc, change)?;
+    let hash = report_hash(alloc, change)?;
     report_with(alloc, change, Some(hash))
 }
 
@@ -82,7 +82,7 @@ fn report_needed(alloc: Global, change: &ReportChange) -> Result<ReportShown, Al
 fn report_with(
     alloc: Global,
     change: &ReportChange,
-    hash: Option<Text>,
+    hash: Option<PackedHash>,
 ) -> Result<ReportShown, AllocError>
     requires { IsReportChange change.now }
     ensures lists { IfOk result (λ s. AreListsOf s.lists change.now) }

@@ -17,6 +17,7 @@ use fleet_rows::stamp_time::Moment;
 use fleet_rows::{
     CatalogChange, DeactivateChange, ExpirationChange, FactsChange, Rank, ReportChange, sha1_hex,
 };
+use packed_shown::PackedHash;
 use row_cells::report_canonical;
 use std::alloc::{AllocError, Global};
 use std::marker::Model;
@@ -61,8 +62,8 @@ pub struct Report {
     pub receipt: u64,
     pub received: Option<Moment>,
     pub change: PackedReport,
-    /// The SHA-1 of its canonical text in hexadecimal, if it is computed.
-    pub hash: Option<Text>,
+    /// The SHA-1 of its canonical text, if it is computed.
+    pub hash: Option<PackedHash>,
 }
 
 /// A report in its own allocation, so that moving it in a list moves 8 bytes. Contracts see the report.
@@ -106,7 +107,7 @@ impl HeldReport {
         received: Option<Moment>,
         change: ReportChange,
         lists: PackedLists,
-        digest: Option<Text>,
+        digest: Option<PackedHash>,
     ) -> HeldReport
         requires lists { AreListsOf lists change }
         requires printable { HasPrintableMoments change }
@@ -209,7 +210,7 @@ impl Report {
         ensures seen { report_seen self.new ≡ report_seen self.old }
     {
         if self.hash.is_none() {
-            self.hash = Some(self.digest(alloc)?);
+            self.hash = Some(self.packed_digest(alloc)?);
         }
         Ok(())
     }
@@ -223,6 +224,26 @@ impl Report {
         let change = self.change.unpack(alloc)?;
         report_digest(alloc, &change)
     }
+
+    // The same, packed.
+    fn packed_digest(&self, alloc: Global) -> Result<PackedHash, AllocError>
+        requires { IsReport self.now }
+        ensures { IfOk result (λ packed. packed ≡ hash (report_object self.now.change)) }
+    {
+        let digits = self.digest(alloc)?;
+        Ok(PackedHash::of(&digits))
+    }
+
+    /// The hash of the report, computed if it isn't stored.
+    pub(crate) fn digits(&self, alloc: Global) -> Result<Text, AllocError>
+        requires { IsReport self.now }
+        ensures { IfOk result (λ digits. digits ≡ hash (report_object self.now.change)) }
+    {
+        match &self.hash {
+            Some(hash) => hash.digits(alloc),
+            None => self.digest(alloc),
+        }
+    }
 }
 
 /// The hash of a report: the SHA-1 of its canonical text, as 40 hexadecimal digits.
@@ -232,4 +253,13 @@ pub(crate) fn report_digest(alloc: Global, change: &ReportChange) -> Result<Text
 {
     let text = report_canonical(alloc, change)?;
     sha1_hex(alloc, text.as_slice())
+}
+
+/// The same, packed.
+pub(crate) fn report_hash(alloc: Global, change: &ReportChange) -> Result<PackedHash, AllocError>
+    requires { HasPrintableMoments change.now }
+    ensures { IfOk result (λ packed. packed ≡ hash (report_object change.now)) }
+{
+    let digits = report_digest(alloc, change)?;
+    Ok(PackedHash::of(&digits))
 }

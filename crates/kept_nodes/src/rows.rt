@@ -6,7 +6,7 @@ ghost use Rattle.checkpoint_spec.specs.fleet_rows.declared.command.Kind.TheVaria
 ghost use Rattle.checkpoint_spec.specs.fleet_rows.declared.row.Entity.TheVariants as entities;
 ghost use Rattle.checkpoint_spec.specs.fleet_rows.declared.settings.Ttls.{Ttls};
 ghost use Rattle.checkpoint_spec.specs.history_spec.Node.{newest};
-ghost use Rattle.checkpoint_spec.specs.table_spec.Cells.{factset_cells, catalog_cells, report_cells};
+ghost use Rattle.checkpoint_spec.specs.table_spec.Cells.{hash, factset_object, catalog_object, factset_cells, catalog_cells, report_cells};
 ghost use Rattle.checkpoint_spec.specs.table_spec.Rows.{change_of, fact_rows, resource_rows, edge_rows};
 ghost use Rattle.row_cells.specs.Nodes.{facts_of, catalog_of, IsHeadOf};
 ghost use Rattle.row_cells.specs.Rows.{IsRow};
@@ -19,12 +19,14 @@ ghost use Rattle.kept_nodes.specs.Seen.{node_seen, facts_seen, catalog_seen, rep
 use crate::kept::{Factset, HeldReport, NodeCatalog, Report, report_digest};
 use crate::node::Node;
 use crate::reports::latest;
-use crate::shown::ResourcesShown;
+use crate::shown::{ResourcesShown, edges_order, facts_order};
+use fleet_rows::json_tree::Text;
 use fleet_rows::stamp_time::Moment;
 use fleet_rows::{CatalogChange, Entity, FactsChange, Row, Ttls};
+use packed_shown::PackedOrder;
 use row_cells::{
-    ReportHead, catalog_row, edge_order, edge_row, fact_order, fact_row, factset_hash, factset_row,
-    node_row, report_row, resource_row,
+    ReportHead, catalog_row, edge_row, fact_row, factset_hash, factset_row, node_row, report_row,
+    resource_row,
 };
 use std::alloc::{AllocError, Global};
 
@@ -41,13 +43,10 @@ impl Node {
         ensures { IfOk result (λ row. IsRowAt row entities.Nodes (node_rows entities.Nodes ttls.now expiry.now (node_seen self.now)) 0) }
     {
         match self.latest_report() {
-            Some(report) => match &report.hash {
-                Some(hash) => self.row_with(alloc, ttls, expiry, &Some(report.change.head(hash))),
-                None => {
-                    let hash = report.digest(alloc)?;
-                    self.row_with(alloc, ttls, expiry, &Some(report.change.head(&hash)))
-                }
-            },
+            Some(report) => {
+                let hash = report.digits(alloc)?;
+                self.row_with(alloc, ttls, expiry, &Some(report.change.head(&hash)))
+            }
             None => self.row_with(alloc, ttls, expiry, &None),
         }
     }
@@ -149,12 +148,18 @@ impl Factset {
         requires { IsFactset self.now }
         ensures { IfOk result (λ row. IsRow row entities.Factsets (factset_cells self.now.change)) }
     {
+        let hash = self.digits(alloc)?;
+        factset_row(alloc, &self.change, &hash)
+    }
+
+    // The hash of the facts.
+    fn digits(&self, alloc: Global) -> Result<Text, AllocError>
+        requires { IsFactset self.now }
+        ensures { IfOk result (λ digits. digits ≡ hash (factset_object self.now.change)) }
+    {
         match &self.shown.hash {
-            Some(hash) => factset_row(alloc, &self.change, hash),
-            None => {
-                let hash = factset_hash(alloc, &self.change)?;
-                factset_row(alloc, &self.change, &hash)
-            }
+            Some(hash) => hash.digits(alloc),
+            None => factset_hash(alloc, &self.change),
         }
     }
 
@@ -164,10 +169,10 @@ impl Factset {
         ensures { IfOk result (λ row. IsRowAt row entities.Facts (fact_rows (changes.Facts self.now.change)) j) }
     {
         match &self.shown.order {
-            Some(order) => fact_at(alloc, &self.change, order.as_slice(), j),
+            Some(order) => fact_at(alloc, &self.change, order, j),
             None => {
-                let order = fact_order(alloc, &self.change.values)?;
-                fact_at(alloc, &self.change, order.as_slice(), j)
+                let order = facts_order(alloc, &self.change)?;
+                fact_at(alloc, &self.change, &order, j)
             }
         }
     }
@@ -177,14 +182,14 @@ impl Factset {
 fn fact_at(
     alloc: Global,
     change: &FactsChange,
-    order: &[usize],
+    order: &PackedOrder,
     j: usize,
 ) -> Result<Row, AllocError>
     requires order { IsFactOrder order.now change.now }
     requires within { j < length change.now.values }
     ensures { IfOk result (λ row. IsRowAt row entities.Facts (fact_rows (changes.Facts change.now)) j) }
 {
-    fact_row(alloc, change, order[j])
+    fact_row(alloc, change, order.at(j))
 }
 
 impl NodeCatalog {
@@ -192,12 +197,18 @@ impl NodeCatalog {
         requires { IsCatalog self.now }
         ensures { IfOk result (λ row. IsRow row entities.Catalogs (catalog_cells self.now.change)) }
     {
+        let hash = self.digits(alloc)?;
+        catalog_row(alloc, &self.change, &hash)
+    }
+
+    // The hash of the catalog.
+    fn digits(&self, alloc: Global) -> Result<Text, AllocError>
+        requires { IsCatalog self.now }
+        ensures { IfOk result (λ digits. digits ≡ hash (catalog_object self.now.change)) }
+    {
         match &self.shown.hash {
-            Some(hash) => catalog_row(alloc, &self.change, hash),
-            None => {
-                let hash = self.shown.digest(alloc, &self.change)?;
-                catalog_row(alloc, &self.change, &hash)
-            }
+            Some(hash) => hash.digits(alloc),
+            None => self.shown.digest(alloc, &self.change),
         }
     }
 
@@ -221,10 +232,10 @@ impl NodeCatalog {
         ensures { IfOk result (λ row. IsRowAt row entities.Edges (edge_rows (changes.Catalog self.now.change)) j) }
     {
         match &self.shown.edge_order {
-            Some(order) => edge_at(alloc, &self.change, order.as_slice(), j),
+            Some(order) => edge_at(alloc, &self.change, order, j),
             None => {
-                let order = edge_order(alloc, self.change.edges.as_slice())?;
-                edge_at(alloc, &self.change, order.as_slice(), j)
+                let order = edges_order(alloc, self.change.edges.as_slice())?;
+                edge_at(alloc, &self.change, &order, j)
             }
         }
     }
@@ -241,23 +252,24 @@ fn resource_at(
     requires within { j < length change.now.resources }
     ensures { IfOk result (λ row. IsRowAt row entities.Resources (resource_rows (changes.Catalog change.now)) j) }
 {
-    let place = shown.order[j];
+    let place = shown.order.at(j);
     let resource = &change.resources.as_slice()[place];
-    resource_row(alloc, change, resource, &shown.hashes[j])
+    let hash = shown.hashes.digits(alloc, j)?;
+    resource_row(alloc, change, resource, &hash)
 }
 
 // Row j of the edges. `order` has their indices in the order of rows.
 fn edge_at(
     alloc: Global,
     change: &CatalogChange,
-    order: &[usize],
+    order: &PackedOrder,
     j: usize,
 ) -> Result<Row, AllocError>
     requires order { IsEdgeOrder order.now change.now.edges }
     requires within { j < length change.now.edges }
     ensures { IfOk result (λ row. IsRowAt row entities.Edges (edge_rows (changes.Catalog change.now)) j) }
 {
-    let place = order[j];
+    let place = order.at(j);
     let edge = &change.edges.as_slice()[place];
     edge_row(alloc, change, edge)
 }
@@ -271,10 +283,13 @@ impl HeldReport {
         let kept = self.report();
         let change = kept.change.unpack(alloc)?;
         match &kept.hash {
-            Some(hash) => report_row(alloc, kept.received, &change, hash),
+            Some(hash) => {
+                let digits = hash.digits(alloc)?;
+                report_row(alloc, kept.received, &change, &digits)
+            }
             None => {
-                let hash = report_digest(alloc, &change)?;
-                report_row(alloc, kept.received, &change, &hash)
+                let digits = report_digest(alloc, &change)?;
+                report_row(alloc, kept.received, &change, &digits)
             }
         }
     }

@@ -14,6 +14,7 @@ use crate::kept::{Factset, NodeCatalog};
 use crate::wanted::Span;
 use fleet_rows::json_tree::{Members, Text};
 use fleet_rows::{FactsChange, Resource};
+use packed_shown::PackedOrder;
 use std::cmp::Ordering;
 
 // Whether something of this rank is below the sought, or with `past` not above it.
@@ -40,7 +41,7 @@ fn fact_rank(values: &Members, at: usize, name: &str) -> Ordering
 }
 
 // The number of facts below the name, or with `past` not above it. `order` has their indices by name.
-fn facts_before(change: &FactsChange, order: &[usize], name: &str, past: bool) -> usize
+fn facts_before(change: &FactsChange, order: &PackedOrder, name: &str, past: bool) -> usize
     requires { IsFactOrder order.now change.now }
     ensures { result ≡ number (λ fact. is_before past (name_rank name.now fact)) change.now.values }
 {
@@ -48,7 +49,8 @@ fn facts_before(change: &FactsChange, order: &[usize], name: &str, past: bool) -
     let mut high = order.len();
     'halves: while low < high {
         let middle = low + (high - low) / 2;
-        if stands_before(fact_rank(&change.values, order[middle], name), past) {
+        let place = order.at(middle);
+        if stands_before(fact_rank(&change.values, place, name), past) {
             low = middle + 1;
         } else {
             high = middle;
@@ -74,7 +76,7 @@ impl Factset {
         ensures { result ≡ number (λ fact. is_before past (name_rank name.now fact)) self.now.change.values }
     {
         match &self.shown.order {
-            Some(order) => facts_before(&self.change, order.as_slice(), name, past),
+            Some(order) => facts_before(&self.change, order, name, past),
             None => facts_counted(&self.change.values, name, past),
         }
     }
@@ -110,7 +112,7 @@ fn resource_rank(resource: &Resource, rtype: &str, title: Option<&Text>) -> Orde
 // The number of resources below the sought, or with `past` not above it. `order` has their indices by type and title.
 fn resources_before(
     resources: &[Resource],
-    order: &[usize],
+    order: &PackedOrder,
     rtype: &str,
     title: Option<&Text>,
     past: bool,
@@ -122,7 +124,8 @@ fn resources_before(
     let mut high = order.len();
     'halves: while low < high {
         let middle = low + (high - low) / 2;
-        if stands_before(resource_rank(&resources[order[middle]], rtype, title), past) {
+        let place = order.at(middle);
+        if stands_before(resource_rank(&resources[place], rtype, title), past) {
             low = middle + 1;
         } else {
             high = middle;
@@ -149,7 +152,7 @@ impl NodeCatalog {
     {
         let resources = self.change.resources.as_slice();
         match &self.shown.resources {
-            Some(shown) => resources_before(resources, shown.order.as_slice(), rtype, title, past),
+            Some(shown) => resources_before(resources, &shown.order, rtype, title, past),
             None => resources_counted(resources, rtype, title, past),
         }
     }
