@@ -49,7 +49,7 @@ module _ {D K : Type 0} (w : Sight D K) (now : â„¤) (bytes rest : Option (List â
   command_ends still calm x comes received short end.Done d = absurd d
   command_ends still calm x comes received short (end.Bad at) d = absurd d
   command_ends still calm x comes received short end.ReadFault d = absurd d
-  command_ends still calm x comes received short end.QueueFault d = inl (record { items = items; spool = front; took = still; after = (queue_rose_later w past a b c p d.0, d.1, d.2, calm, x, comes) })
+  command_ends still calm x comes received short end.QueueFault d = inl (record { items = items; spool = front; took = still; after = (queue_rose_later w past a b c p d.0, d.1, d.2, calm, x, comes, d.3) })
   command_ends still calm x comes received short end.StoreDown d = absurd d
   command_ends still calm x comes received short end.StoreFault d = absurd d
   command_ends still calm x comes received short end.Spent d =
@@ -63,7 +63,7 @@ module _ {D K : Type 0} (w : Sight D K) (now : â„¤) (bytes rest : Option (List â
   sweep_ends kinds m comes none end.QueueFault d = absurd d
   sweep_ends kinds m comes none end.StoreDown d = record { items = items; spool = front; took = took; after = (behind_later w past a b c p 2 d.0, d.1, intake.comes (record { kinds = kinds; moment = m; comes = comes; nothing = none }) (Î» start stood. d.2 start (p.stands start stood))) }
   sweep_ends kinds m comes none end.StoreFault d =
-      record { items = items; spool = front; took = took; after = (behind_later w past a b c p 1 d.0, d.1, record { kinds = kinds; moment = m; comes = comes; nothing = none }) }
+      record { items = items; spool = front; took = took; after = (behind_later w past a b c p 1 d.0, d.1, (record { kinds = kinds; moment = m; comes = comes; nothing = none }, d.2)) }
   sweep_ends kinds m comes none end.Spent d = inr (record { items = items; spool = front; took = took; after = (d.0, intake.to_sweep kinds m comes none d.1) })
   sweep_ends kinds m comes none end.Memory d = record { items = items; spool = front; took = took; after = d }
 

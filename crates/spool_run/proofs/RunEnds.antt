@@ -266,7 +266,7 @@ module _ {D : Type 0} (w : DiskSight D) (now : ℤ) (spool spool_after out out_a
         (inr (inl (
           is_down (log_sight w) ended,
           queue_rose_twice w disks opened opens ended sound now spool.bytes false ends.items ends.took it.2 it.1,
-          came_in calm false ends.items ends.spool ends.took closes.1 (is_down (log_sight w) ended) refl (CommandComes now spool.bytes) (it.3, it.4, it.5),
+          came_in calm false ends.items ends.spool ends.took closes.1 (is_down (log_sight w) ended) refl (CommandComes now spool.bytes) (it.3, it.4, it.5, it.6),
         )))
         (queue_rose w disks opened opens ended sound it.0))
     closed_run end.QueueFault (inr ends) read answer closes =

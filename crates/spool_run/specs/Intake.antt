@@ -86,6 +86,11 @@ pub record SweepComes {D K : Type 0} (w : Sight D K) (now : ℤ) (bytes : Option
   pub comes : ComesNext now bytes items (sweep kinds moment)
   pub nothing : new.pending ≡ []
 
+-- and the store has room for it
+abbrev pub SweepHasRoom : {D K : Type 0} → Sight D K → ℤ → Option (List ℕ) → CoreState D K → CoreState D K → List Item → Type 0
+SweepHasRoom w now bytes old new items =
+    (next : SweepComes w now bytes old new items) × (IsPast (w.store_size new.store) (store_text (store.Swept next.kinds next.moment)) → ⊥)
+
 -- each image of the disks stands for the history, or for it and this sweep
 abbrev pub MayHaveSwept : {D K : Type 0} → Sight D K → Kinds → ℤ → CoreState D K → CoreState D K → Type 0
 MayHaveSwept w kinds m old new =
@@ -112,18 +117,19 @@ pub data IsSpent {D K : Type 0} (w : Sight D K) (now : ℤ) (bytes : Option (Lis
   to_settle : HasNoRoom w old new → SomethingWaits w old new → IsSpent w now bytes old new items
 
 -- What an end says of the spool's bytes, of those left, and of the core before and after. If a fault comes while the spool is
--- read or at the next command, nothing is due. Otherwise it comes while commands are settled, or at a sweep.
+-- read or at the next command, nothing is due. Otherwise it comes while commands are settled, or at a sweep. A command or a sweep
+-- that a fault kept out had room.
 abbrev pub EndsSo : {D K : Type 0} → Sight D K → ℤ → SpoolEnd → Option (List ℕ) → Option (List ℕ) → CoreState D K → CoreState D K → Type 0
 EndsSo w now end.Done bytes rest old new = TookAll w now bytes whole old new × IsAtEnd rest
 EndsSo w now (end.Bad at) bytes rest old new = TookAll w now bytes (bad_at at) old new
 EndsSo w now end.ReadFault bytes rest old new = TookSome w now false bytes old new (λ more items. (is_down w new ≡ false) × NothingIsDue more new.pending × WereRead now bytes rest items)
 EndsSo w now end.QueueFault bytes rest old new =
-    TookSome w now false bytes old new (λ more items. QueueRose w old new × (w.store_down new.store ≡ false) × (new.undone ≡ false) × NothingIsDue more new.pending × (c : Command) × ComesNext now bytes items (command c))
+    TookSome w now false bytes old new (λ more items. QueueRose w old new × (w.store_down new.store ≡ false) × (new.undone ≡ false) × NothingIsDue more new.pending × (c : Command) × ComesNext now bytes items (command c) × (submits.IsSpent c new → ⊥))
     ⊎ TookSome w now true bytes old new (λ more items. QueueRose w old new × (w.store_down new.store ≡ false) × (LacksDone w old new ⊎ IsLeft w old new))
 EndsSo w now end.StoreDown bytes rest old new =
     TookSome w now true bytes old new (λ more items. RoseBehindFails w 2 old new × (w.store_down new.store ≡ true) × WorkIsLeft w now bytes old new items)
 EndsSo w now end.StoreFault bytes rest old new =
-    TookSome w now true bytes old new (λ more items. RoseBehindFails w 1 old new × (is_down w new ≡ false) × SweepComes w now bytes old new items)
+    TookSome w now true bytes old new (λ more items. RoseBehindFails w 1 old new × (is_down w new ≡ false) × SweepHasRoom w now bytes old new items)
 EndsSo w now end.Spent bytes rest old new =
     TookSome w now false bytes old new (λ more items. (is_down w new ≡ false) × NothingIsDue more new.pending × SubmitIsSpent now bytes new items)
     ⊎ TookSome w now true bytes old new (λ more items. (is_down w new ≡ false) × IsSpent w now bytes old new items)

@@ -30,9 +30,10 @@ use Rattle.fleet_hub.specs.core_opening.Opened.{LogCore, FilesStand, DisksStand,
 use Rattle.fleet_hub.specs.core_course.Sight.{Sight, sight, is_down}
 use Rattle.fleet_hub.specs.core_course.Courses.{Course, NoMomentIsLeftOut, Passed}
 use Rattle.fleet_hub.specs.core_drain.Ends.{LacksDone, SomethingWaits}
+use Rattle.fleet_hub.specs.core_submits.Submits as submits
 use Rattle.spool_run.specs.Rules.{NothingIsDue, HasNoRestart, KeepsRules}
 use Rattle.spool_run.specs.Fronts.{AreInFront, ComesNext, WereRead}
-use Rattle.spool_run.specs.Intake.{MayTake, WorkIsLeft, SweepComes, SubmitIsSpent, IsSpent}
+use Rattle.spool_run.specs.Intake.{MayTake, WorkIsLeft, SweepHasRoom, SubmitIsSpent, IsSpent}
 use Rattle.calm_commands.specs.declared.status.Status.{Status}
 use Rattle.calm_commands.specs.declared.status.Status.TheVariants as status
 use Rattle.calm_commands.specs.Told.{Stream, AppendsLess}
@@ -109,8 +110,9 @@ IsSoundCore w core = IsSound w.seen w.may_leave (λ k. is_down_of (pair_of k)) (
 -- written, which is of work on a command or of the spool's next item. After the records that were found, the logs have those of
 -- the events.
 --
--- The disks are those of the last core, which is sound. If it is up, the sizes of its logs are those of the files. The fault
--- counts of the store's disks rose by at least one for each counted failure. So if they didn't rise, there is none.
+-- The disks are those of the last core, which is sound. If it is up, the sizes of its logs are those of the files, and no log
+-- outgrew 2^62 bytes (`passed`). So where a record doesn't fit, it isn't written. The fault counts of the store's disks rose by at
+-- least one for each counted failure. So if they didn't rise, there is none.
 pub record RanOn {D : Type 0} (w : DiskSight D) (now : ℤ) (spool : Option (List ℕ)) (down : Bool) (disks after : Disks D) (more : History) : Type 0 where
   pub opened : LogCore D
   pub opens : OpensTo w disks opened
@@ -165,11 +167,11 @@ NotOpened w disks after answer spool spool_after = IsUnopened w disks after answ
 abbrev pub NoBatch : {D : Type 0} → ℤ → Option (List ℕ) → Option (List ℕ) → History → List Item → LogCore D → LogCore D → Type 0
 NoBatch now spool spool_after more items old new = NothingIsDue more new.pending × WereRead now spool spool_after items
 
--- and a command comes next
+-- and a command comes next, for which there is a receipt and room
 abbrev pub CommandComes : {D : Type 0} → ℤ → Option (List ℕ) → History → List Item → LogCore D → LogCore D → Type 0
-CommandComes now spool more items old new = NothingIsDue more new.pending × (c : Command) × ComesNext now spool items (thread.command c)
+CommandComes now spool more items old new = NothingIsDue more new.pending × (c : Command) × ComesNext now spool items (thread.command c) × (submits.IsSpent c new → ⊥)
 
--- and there is no receipt or no room for it
+-- a command comes next, for which there is no receipt or no room
 abbrev pub CommandIsSpent : {D : Type 0} → ℤ → Option (List ℕ) → History → List Item → LogCore D → LogCore D → Type 0
 CommandIsSpent now spool more items old new = NothingIsDue more new.pending × SubmitIsSpent now spool new items
 
@@ -186,9 +188,9 @@ DoneIsLacking w more items old new = LacksDone (log_sight w) old new
 abbrev pub SomethingIsLeft : {D : Type 0} → DiskSight D → ℤ → Option (List ℕ) → Disks D → Disks D → History → List Item → LogCore D → LogCore D → Type 0
 SomethingIsLeft w now spool disks after more items old new = StoreRoseBehind 2 w disks after more × WorkIsLeft (log_sight w) now spool old new items
 
--- a sweep comes next and nothing is pending, and the store failed after all counted failures
+-- A sweep comes next, for which there is room, and nothing is pending. The store failed after all counted failures.
 abbrev pub SweepIsLeft : {D : Type 0} → DiskSight D → ℤ → Option (List ℕ) → Disks D → Disks D → History → List Item → LogCore D → LogCore D → Type 0
-SweepIsLeft w now spool disks after more items old new = StoreRoseBehind 1 w disks after more × SweepComes (log_sight w) now spool old new items
+SweepIsLeft w now spool disks after more items old new = StoreRoseBehind 1 w disks after more × SweepHasRoom (log_sight w) now spool old new items
 
 abbrev pub Anything : {D : Type 0} → History → List Item → LogCore D → LogCore D → Type 0
 Anything more items old new = Unit {0}

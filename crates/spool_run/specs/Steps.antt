@@ -53,7 +53,7 @@ pub record AddedNothing {D K : Type 0} (w : Sight D K) (item : Item) (old new : 
 -- ---- a command
 
 abbrev pub CommandRefused : {D K : Type 0} → Sight D K → SpoolEnd → Command → CoreState D K → CoreState D K → Type 0
-CommandRefused w end.QueueFault c old new = QueueRose w old new × (w.store_down new.store ≡ false) × (new.undone ≡ false)
+CommandRefused w end.QueueFault c old new = QueueRose w old new × (w.store_down new.store ≡ false) × (new.undone ≡ false) × (submits.IsSpent c new → ⊥)
 CommandRefused w end.Spent c old new = (is_down w new ≡ false) × submits.IsSpent c new
 CommandRefused w end.Memory c old new = is_down w new ≡ false
 CommandRefused w _ c old new = ⊥
@@ -70,7 +70,7 @@ pub data OneTaken {D K : Type 0} (w : Sight D K) (result : Option SpoolEnd) (c :
 -- ---- a sweep
 
 abbrev pub SweepFailed : {D K : Type 0} → Sight D K → SpoolEnd → Kinds → ℤ → CoreState D K → CoreState D K → Type 0
-SweepFailed w end.StoreFault kinds m old new = RoseBehindFails w 1 old new × (is_down w new ≡ false)
+SweepFailed w end.StoreFault kinds m old new = RoseBehindFails w 1 old new × (is_down w new ≡ false) × (IsPast (w.store_size new.store) (store_text (store.Swept kinds m)) → ⊥)
 SweepFailed w end.StoreDown kinds m old new = RoseBehindFails w 2 old new × (w.store_down new.store ≡ true) × MayHaveSwept w kinds m old new
 SweepFailed w end.Spent kinds m old new = (is_down w new ≡ false) × IsPast (w.store_size new.store) (store_text (store.Swept kinds m))
 SweepFailed w end.Memory kinds m old new = is_down w new ≡ false

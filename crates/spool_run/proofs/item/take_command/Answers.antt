@@ -11,7 +11,7 @@ returns-in-Receipt g c =
 pub returns-in-QueueFault : goal.returns-in-QueueFault
 returns-in-QueueFault g c =
     let w : Sight g.row.D.Denot g.row.K.Denot = sight g.D.Disk.is_told g.D.Disk.seen g.D.Disk.may_leave g.D.Disk.moment g.D.Disk.left_since g.D.Disk.fault_count g.K.Keeper.is_told g.K.Keeper.kept g.K.Keeper.images g.K.Keeper.moment g.K.Keeper.images_since g.K.Keeper.down g.K.Keeper.size g.K.Keeper.fault_count g.K.Keeper.opened g.K.Keeper.is_within in
-    queue_failed w c.args.command c.args.core.now c.submit.new.self c.requires.up (record { adds = c.in-QueueFault.ensures.does.adds; writes = c.in-QueueFault.ensures.does.writes; stands = c.in-QueueFault.ensures.does.stands; any_moment = c.in-QueueFault.ensures.does.any_moment; submitted = c.in-QueueFault.ensures.does.submitted; others = c.in-QueueFault.ensures.does.others; store = c.in-QueueFault.ensures.does.store; down = c.in-QueueFault.ensures.does.down; unchanged = c.in-QueueFault.ensures.does.unchanged; cause = c.in-QueueFault.ensures.does.cause; twice = c.in-QueueFault.ensures.does.twice }) (c.in-QueueFault.ensures.does.fault refl).pending
+    queue_failed w c.args.command c.args.core.now c.submit.new.self c.requires.up (record { adds = c.in-QueueFault.ensures.does.adds; writes = c.in-QueueFault.ensures.does.writes; stands = c.in-QueueFault.ensures.does.stands; any_moment = c.in-QueueFault.ensures.does.any_moment; submitted = c.in-QueueFault.ensures.does.submitted; others = c.in-QueueFault.ensures.does.others; store = c.in-QueueFault.ensures.does.store; down = c.in-QueueFault.ensures.does.down; unchanged = c.in-QueueFault.ensures.does.unchanged; cause = c.in-QueueFault.ensures.does.cause; twice = c.in-QueueFault.ensures.does.twice }) (c.in-QueueFault.ensures.does.fault refl).pending c.in-QueueFault.ensures.does.full c.in-QueueFault.ensures.does.unspent
 
 pub returns-in-Spent : goal.returns-in-Spent
 returns-in-Spent g c =

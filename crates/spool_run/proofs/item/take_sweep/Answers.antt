@@ -14,7 +14,7 @@ returns-in-Ok g c =
 pub returns-in-StoreFault : goal.returns-in-StoreFault
 returns-in-StoreFault g c =
     let w : Sight g.row.D.Denot g.row.K.Denot = sight g.D.Disk.is_told g.D.Disk.seen g.D.Disk.may_leave g.D.Disk.moment g.D.Disk.left_since g.D.Disk.fault_count g.K.Keeper.is_told g.K.Keeper.kept g.K.Keeper.images g.K.Keeper.moment g.K.Keeper.images_since g.K.Keeper.down g.K.Keeper.size g.K.Keeper.fault_count g.K.Keeper.opened g.K.Keeper.is_within in
-    store_failed w c.args.kinds c.args.m c.args.core.now c.sweep.new.self c.requires.up c.in-StoreFault.ensures.does.pending (record { adds = c.in-StoreFault.ensures.does.adds; writes = c.in-StoreFault.ensures.does.writes; stands = c.in-StoreFault.ensures.does.stands; any_moment = c.in-StoreFault.ensures.does.any_moment; submitted = c.in-StoreFault.ensures.does.submitted; opening = c.in-StoreFault.ensures.does.opening; same_opening = c.in-StoreFault.ensures.does.keeper.same_opening; bounds = c.in-StoreFault.ensures.does.keeper.bounds; queue = c.in-StoreFault.ensures.does.queue; down = c.in-StoreFault.ensures.does.down; unchanged = c.in-StoreFault.ensures.does.unchanged; cause = c.in-StoreFault.ensures.does.cause }) (c.in-StoreFault.ensures.does.up (λ e. cc))
+    store_failed w c.args.kinds c.args.m c.args.core.now c.sweep.new.self c.requires.up c.in-StoreFault.ensures.does.pending (record { adds = c.in-StoreFault.ensures.does.adds; writes = c.in-StoreFault.ensures.does.writes; stands = c.in-StoreFault.ensures.does.stands; any_moment = c.in-StoreFault.ensures.does.any_moment; submitted = c.in-StoreFault.ensures.does.submitted; opening = c.in-StoreFault.ensures.does.opening; same_opening = c.in-StoreFault.ensures.does.keeper.same_opening; bounds = c.in-StoreFault.ensures.does.keeper.bounds; queue = c.in-StoreFault.ensures.does.queue; down = c.in-StoreFault.ensures.does.down; unchanged = c.in-StoreFault.ensures.does.unchanged; cause = c.in-StoreFault.ensures.does.cause }) (c.in-StoreFault.ensures.does.up (λ e. cc)) c.in-StoreFault.ensures.does.unspent
 
 pub returns-in-StoreDown : goal.returns-in-StoreDown
 returns-in-StoreDown g c =
