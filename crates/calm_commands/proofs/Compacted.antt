@@ -40,7 +40,7 @@ use Rattle.command_core.specs.core_opening.Opened.{LogCore, CountsIn, LogCoreSta
 use Rattle.calm_commands.specs.declared.status.Status.{Status}
 use Rattle.calm_commands.specs.declared.status.Status.TheVariants as status
 use Rattle.calm_commands.specs.Openings.{DiskSight, queue_files, store_files, ForEachHistory, OpensSo, OpensTo, IsUnopened, IsOpeningEnd}
-use Rattle.calm_commands.specs.Compacting.{compact_status, IsCompactEnd, CompactsOn, CompactsWithin, AreCompacted, Turned, QueueTurned, StoreTurned, HasNoTurn, StoreIsSpent, QueueIsSpent, LogIsFull, IsCompactRun}
+use Rattle.calm_commands.specs.Compacting.{compact_status, IsCompactEnd, CompactsOn, CompactsWithin, AreCompacted, Turned, QueueTurned, StoreTurned, HasNoTurn, StoreIsSpent, QueueIsSpent, LogIsFull, LogsHaveRoom, IsCompactRun}
 use Rattle.calm_commands.proofs.Faults.{rose}
 
 abbrev CoreWithin : {D : Type 0} → DiskSight D → LogCore D → LogCore D → (Option (List QueueRecord) → Option (List StoreRecord) → Type 0) → Type 0
@@ -131,6 +131,10 @@ no_turn : (before : PairImage) (side : Side) (generation : ℕ) (texts : List (L
 no_turn (broken s p) side generation texts was past = absurd was
 no_turn (counts s g fs q) side generation texts was past = subst (λ (n : ℕ). ArePast n texts) was.1 past
 
+is_past : (before : PairImage) (side : Side) (generation : ℕ) (texts : List (List ℕ)) → CountsIn before side generation → HasNoTurn before texts → ArePast generation texts
+is_past (broken s p) side generation texts was past = absurd was
+is_past (counts s g fs q) side generation texts was past = subst (λ (n : ℕ). ArePast n texts) (sym was.1) past
+
 is_memory : (a : Compacted) → (a ≡ came.Down → ⊥) → compact_status a ≡ status.Memory → a ≡ came.Memory
 is_memory came.Ok up is = absurd (cc)
 is_memory came.QueueFault up is = absurd (cc)
@@ -157,6 +161,7 @@ module _ {D : Type 0} (w : DiskSight D) (counts_now : (d : D) (t : ℕ) (c : Lis
       ends = nothing_ends answer is.ends;
       files = is.files;
       full = λ told spent. inl (is.full told spent);
+      roomy = λ told no_spent no_memory. inl is;
       any_moment = λ told ttls history all. record {
         opened = after;
         opening = is.any_moment told ttls history all;
@@ -195,6 +200,9 @@ module _ {D : Type 0} (w : DiskSight D) (counts_now : (d : D) (t : ℕ) (c : Lis
       (queue_cause : QueueCounts w.faults core.queue new.queue (answer ≡ came.QueueFault)) (store_cause : Counts (faults_of core.store) (faults_of new.store) (answer ≡ came.StoreFault))
       (keeper : KeeperGoesOn (λ (k : LogKeeper D). opened_of k) (λ k. IsWithin w.faults k) core.store new.store)
       (stays : answer ≡ came.Memory → CoreStays core new)
+      (store_unspent : is_down core ≡ false → ArePast (generation_of_pair (pair_of core.store)) (map store_text (store_records core)) → (answer ≡ came.Spent) ⊎ (answer ≡ came.Memory))
+      (queue_unspent : is_down core ≡ false → ArePast (generation_of_pair (queue_pair core.queue)) (map queue_text (queue_records core))
+      → (answer ≡ came.Spent) ⊎ (answer ≡ came.Memory) ⊎ (answer ≡ came.StoreFault))
       (store_goes : is_down core ≡ false → is_down_of (pair_of new.store) ≡ true → answer ≡ came.StoreFault) (queue_goes : is_down core ≡ false → queue_down new.queue ≡ true → answer ≡ came.QueueFault) where
     abbrev after : Disks D
     after = disks_in new
@@ -266,6 +274,23 @@ module _ {D : Type 0} (w : DiskSight D) (counts_now : (d : D) (t : ℕ) (c : Lis
           store_turns told (apart came.Spent came.StoreFault spent (λ e. cc)) both.1,
         )
 
+    has_room : IsTrue w.tells → (compact_status answer ≡ status.Spent → ⊥) → (compact_status answer ≡ status.Memory → ⊥) → LogsHaveRoom w disks (compact_status answer)
+    has_room told no_spent no_memory = (
+      core,
+      opens,
+      λ full.
+          ⊎_elim (λ spent. no_spent (ap compact_status spent)) (λ memory. no_memory (ap compact_status memory))
+          (store_unspent opens.up.up (is_past (store_files w disks) (side_of (pair_of core.store)) (generation_of_pair (pair_of core.store)) (map store_text (store_records core)) (opens.goes_on told).store full)),
+      λ no_fault full.
+          queue_refused no_fault
+          (queue_unspent opens.up.up (is_past (queue_files w disks) (side_of (queue_pair core.queue)) (generation_of_pair (queue_pair core.queue)) (map queue_text (queue_records core)) (opens.goes_on told).queue full)),
+    )
+      where
+        queue_refused : (compact_status answer ≡ status.StoreFault → ⊥) → (answer ≡ came.Spent) ⊎ (answer ≡ came.Memory) ⊎ (answer ≡ came.StoreFault) → ⊥
+        queue_refused no_fault (inl spent) = no_spent (ap compact_status spent)
+        queue_refused no_fault (inr (inl memory)) = no_memory (ap compact_status memory)
+        queue_refused no_fault (inr (inr fault)) = no_fault (ap compact_status fault)
+
     module _ (ttls : Ttls) (history : History) (is : core.tables.ttls ≡ ttls) (on : LogCoreStands w.tells w.seen w.may_leave core history) where
       abbrev old : History
       old = history_of core history
@@ -328,6 +353,7 @@ module _ {D : Type 0} (w : DiskSight D) (counts_now : (d : D) (t : ℕ) (c : Lis
         spent = λ told lacks. absurd (opens.roomy told lacks);
       };
       full = λ told is. inr (is_full told (is_spent answer is));
+      roomy = λ told no_spent no_memory. inr (has_room told no_spent no_memory);
       any_moment = λ told ttls history all. (let on = opens.stands_for told ttls history (opens.read told ttls history all) in compacts_within ttls history on.0 on.1 (opens.any_moment told ttls history all));
       each_moment = inr (core, opens, λ told ttls history files. (let on = opens.stands_for told ttls history files in compacts_on ttls history on.0 on.1));
       leaves = λ told ttls history all. leaves_read told ttls history (opens.read told ttls history all);

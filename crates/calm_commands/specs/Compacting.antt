@@ -102,6 +102,13 @@ QueueIsSpent w disks after core = HasNoTurn (queue_files w disks) (map queue_tex
 abbrev pub LogIsFull : {D : Type 0} → DiskSight D → Disks D → Disks D → Type 0
 LogIsFull {D} w disks after = (core : LogCore D) × OpensTo w disks core × (StoreIsSpent w disks after core ⊎ QueueIsSpent w disks after core)
 
+-- A core was opened whose store's log can be compacted, and so can its queue's log. If the store failed, the queue's log wasn't
+-- tried.
+abbrev pub LogsHaveRoom : {D : Type 0} → DiskSight D → Disks D → Status → Type 0
+LogsHaveRoom {D} w disks answer =
+    (core : LogCore D) × OpensTo w disks core × (HasNoTurn (store_files w disks) (map store_text (store_records core)) → ⊥)
+    × ((answer ≡ status.StoreFault → ⊥) → HasNoTurn (queue_files w disks) (map queue_text (queue_records core)) → ⊥)
+
 -- ---- the command
 
 -- Both logs are compacted, and the disks stand for what each of their images stood for. After an opening they also stand for what
@@ -110,6 +117,8 @@ pub record IsCompactRun {D : Type 0} (w : DiskSight D) (disks after : Disks D) (
   pub ends : IsCompactEnd answer
   pub files : TellsFiles w disks answer
   pub full : IsTrue w.tells → answer ≡ status.Spent → LackRoom w disks ⊎ LogIsFull w disks after
+  -- so Spent comes wherever a log can't be compacted, unless memory is missing or a fault comes first
+  pub roomy : IsTrue w.tells → (answer ≡ status.Spent → ⊥) → (answer ≡ status.Memory → ⊥) → IsUnopened w disks after answer ⊎ LogsHaveRoom w disks answer
   pub any_moment : ForEachImages w disks (CompactsWithin w disks after answer)
   pub each_moment : CompactsOver w disks after answer
   pub leaves : ForEachImages w disks (λ ttls history. DisksStand w.may_leave ttls after (Restart ∷ history))

@@ -19,12 +19,13 @@
 //!   (`told`). The same holds for Spent and a missing Done without room (`spent`, `full`).
 //! - [`sweep_disks`] (`IsSweepRun`): StoreFault and StoreDown come only if a store count rose (`store_cause`), StoreDown only
 //!   if one rose by two (`store_twice`). Spent comes only if a missing Done has no room in the queue, or the sweep none in the
-//!   store (`full`). Damaged files are left untouched (`untouched`).
+//!   store (`full`), and then always, unless memory is missing or a fault comes first (`roomy`). Damaged files are left
+//!   untouched (`untouched`).
 //! - [`compact_disks`] (`IsCompactRun`): the images change in order: the opening's, then the store's, then the queue's. At Done
 //!   the other file of each log counts, with the next generation (`turned`). At QueueFault this holds for the store, or no core
 //!   was opened (`half_turned`). At every other status the queue is as the opening left it (`queue_waits`), and at Memory the
 //!   store too (`store_waits`). Spent comes only if a missing Done or the records have no room, or a log has no generation left
-//!   (`full`).
+//!   (`full`), and then always, unless memory is missing or a fault comes first (`roomy`).
 //! - [`print_discards`], [`print_payload`]: exactly the lines or the payload at Done, a proper prefix at WriteFault, otherwise
 //!   nothing (`prints`). NoSuch comes exactly if nothing was discarded under the receipt, once a core is open. Only the opening
 //!   writes to disks (`OnlyOpens`).

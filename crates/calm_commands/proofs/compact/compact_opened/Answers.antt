@@ -21,6 +21,6 @@ returns g c disks opens =
     let e = c.compact-came.ensures.does in
     let new = c.compact-came.new.self in
     let run = compacted_run w m.counts_now m.only_now disks c.args.core new opens c.compact-came.result (λ down. never (down_of (λ k. is_down_of (pair_of k)) c.args.core) (e.down.0 down) c.requires.up.up)
-    e.writes e.checkpoints e.any_moment c.is_sound.ensures e.queue_cause e.store_cause e.keeper e.stays e.store_goes_down e.queue_goes_down in
+    e.writes e.checkpoints e.any_moment c.is_sound.ensures e.queue_cause e.store_cause e.keeper e.stays e.store_unspent e.queue_unspent e.store_goes_down e.queue_goes_down in
     subst (λ (s : Status). IsCompactRun w disks c.into_disks.result s) (sym c.status_of.ensures)
     (subst (λ (x : Disks g.row.D.Denot). IsCompactRun w disks x (compact_status c.compact-came.result)) (sym c.into_disks.ensures) run)
