@@ -8,11 +8,12 @@ use Rattle.command_core.specs.core_state.declared.state.CoreState.{CoreState}
 use Rattle.command_core.specs.core_state.Puts.{QueueRoseTwice}
 use Rattle.core_course.specs.Sight.{Sight, is_down}
 use Rattle.core_course.specs.Courses.{Passed}
+use Rattle.core_course.proofs.Stretches.{passed_join}
 use Rattle.core_course.proofs.Traces.{queue_trace-append}
 use Rattle.command_core.proofs.of_core_state.of_fleet_keeper.Within.{rose_from}
 use Rattle.core_drain.specs.declared.ends.WorkEnd.{WorkEnd}
 use Rattle.core_drain.specs.declared.ends.WorkEnd.TheVariants.{Done, QueueFault, StoreDown, Spent, Down, Memory}
-use Rattle.core_drain.specs.Ends.{SomethingWaits, IsLeft, HasNoRoom, to_settle, to_supersede, QueueRose, LacksDone, ChangeIsOpen, RoseBehindFails, EndsSo, EndsHere}
+use Rattle.core_drain.specs.Ends.{SomethingWaits, IsLeft, HasNoRoom, to_settle, to_supersede, QueueRose, LacksDone, ChangeIsOpen, RoseInLast, RoseBehindFails, EndsSo, EndsHere}
 
 module _ {D K : Type 0} (w : Sight D K) where
   module _ (more : History) (a b c : CoreState D K) (p : Passed w more a b) where
@@ -33,6 +34,17 @@ module _ {D K : Type 0} (w : Sight D K) where
       later = omega (arith, p.counts.store, h.later);
       rose = h.rose;
       fails = λ start stood. h.fails start (p.stands start stood);
+    }
+
+    last_later : RoseInLast w b c → RoseInLast w a c
+    last_later h = record {
+      earlier = h.earlier ++ more;
+      mid = h.mid;
+      before = passed_join w more h.earlier a b h.mid p h.before;
+      last = h.last;
+      of_one = h.of_one;
+      passed = h.passed;
+      rose = h.rose;
     }
 
     twice_later : QueueRoseTwice w.faults b.queue c.queue → QueueRoseTwice w.faults a.queue c.queue
@@ -74,7 +86,7 @@ module _ {D K : Type 0} (w : Sight D K) where
 
       pub fault_later : LacksDone w b c ⊎ IsLeft w b c → LacksDone w a c ⊎ IsLeft w a c
       fault_later (inl lacks) = inl (lacks_later lacks)
-      fault_later (inr left) = inr (left.0, waits_later left.1)
+      fault_later (inr left) = inr (left.0, waits_later left.1, λ still. last_later (left.2 still))
 
       pub here_later : (end : Option WorkEnd) → EndsHere w end b c → EndsHere w end a c
       here_later None h = h

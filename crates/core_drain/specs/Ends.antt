@@ -20,6 +20,7 @@ use Rattle.command_core.specs.core_settles.declared.answers.Verdict.{Verdict}
 use Rattle.command_core.specs.core_settles.Settles as settles
 use Rattle.command_core.specs.core_settles.Settles.{IsVerdictOf}
 use Rattle.core_course.specs.Sight.{Sight, Stood, is_down}
+use Rattle.core_course.specs.Courses.{AreOfOneCall, Passed}
 use Rattle.core_drain.specs.declared.ends.WorkEnd.{WorkEnd}
 use Rattle.core_drain.specs.declared.ends.WorkEnd.TheVariants.{Done, QueueFault, StoreDown, Spent, Down, Memory}
 
@@ -77,9 +78,19 @@ pub record RoseBehindFails {D K : Type 0} (w : Sight D K) (n : ℕ) (old new : C
   pub rose : RoseBy n counted (w.store_faults new.store)
   pub fails : (start : History) → Stood w old start → IsAfterFails counted (history_of new start)
 
--- Something is pending, and no Done is lacking. So only a log can be down.
+-- the fault count of one of the queue's disks rose in the last call
+pub record RoseInLast {D K : Type 0} (w : Sight D K) (old new : CoreState D K) : Type 0 where
+  pub earlier : History
+  pub mid : CoreState D K
+  pub before : Passed w earlier old mid
+  pub last : History
+  pub of_one : AreOfOneCall last
+  pub passed : Passed w last mid new
+  pub rose : QueueRose w mid new
+
+-- Something is pending, and no Done is lacking. So only a log can be down. If none is, the last call counted the fault.
 abbrev pub IsLeft : {D K : Type 0} → Sight D K → CoreState D K → CoreState D K → Type 0
-IsLeft w old new = (new.undone ≡ false) × SomethingWaits w old new
+IsLeft w old new = (new.undone ≡ false) × SomethingWaits w old new × (is_down w new ≡ false → RoseInLast w old new)
 
 -- What an end says of the core before the drain and after it.
 abbrev pub EndsSo : {D K : Type 0} → Sight D K → WorkEnd → CoreState D K → CoreState D K → Type 0
