@@ -225,7 +225,7 @@ module _ {D : Type 0} (w : DiskSight D) (now : ℤ) (spool spool_after out out_a
           inr (inr (inr (
             is_down (log_sight w) ended,
             queue_rose_twice w disks opened opens ended sound now spool.bytes true items t left.0 up,
-            came_in true items front t same (is_down (log_sight w) ended) refl (CommandWaits w) left.1,
+            came_in true items front t same (is_down (log_sight w) ended) refl (CommandWaits w) (left.1, left.2),
           )))
 
     -- ---- the intake's ends

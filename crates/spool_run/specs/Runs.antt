@@ -29,7 +29,7 @@ use Rattle.fleet_hub.specs.core_state.Tallies.{tally_of}
 use Rattle.fleet_hub.specs.core_opening.Opened.{LogCore, FilesStand, DisksStand, disks_in}
 use Rattle.fleet_hub.specs.core_course.Sight.{Sight, sight, is_down}
 use Rattle.fleet_hub.specs.core_course.Courses.{Course, NoMomentIsLeftOut, Passed}
-use Rattle.fleet_hub.specs.core_drain.Ends.{LacksDone, SomethingWaits}
+use Rattle.fleet_hub.specs.core_drain.Ends.{LacksDone, RoseInLast, SomethingWaits}
 use Rattle.fleet_hub.specs.core_submits.Submits as submits
 use Rattle.spool_run.specs.Rules.{NothingIsDue, HasNoRestart, KeepsRules}
 use Rattle.spool_run.specs.Fronts.{AreInFront, ComesNext, WereRead}
@@ -175,9 +175,9 @@ CommandComes now spool more items old new = NothingIsDue more new.pending × (c 
 abbrev pub CommandIsSpent : {D : Type 0} → ℤ → Option (List ℕ) → History → List Item → LogCore D → LogCore D → Type 0
 CommandIsSpent now spool more items old new = NothingIsDue more new.pending × SubmitIsSpent now spool new items
 
--- a command is pending
+-- A command is pending. If the core is up, its last call counted the fault: so the call found room.
 abbrev pub CommandWaits : {D : Type 0} → DiskSight D → History → List Item → LogCore D → LogCore D → Type 0
-CommandWaits w more items old new = SomethingWaits (log_sight w) old new
+CommandWaits w more items old new = SomethingWaits (log_sight w) old new × (is_down (log_sight w) new ≡ false → RoseInLast (log_sight w) old new)
 
 -- the command that was applied last has no Done
 abbrev pub DoneIsLacking : {D : Type 0} → DiskSight D → History → List Item → LogCore D → LogCore D → Type 0
