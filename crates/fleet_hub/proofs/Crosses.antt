@@ -23,6 +23,7 @@ use Rattle.core_drain.proofs.of_fleet_tables.of_kept_nodes.kept.Expiration.TheSe
 use Rattle.core_drain.proofs.of_fleet_tables.of_kept_nodes.shown.FactsShown.TheSendSync as facts_shown
 use Rattle.core_drain.proofs.of_fleet_tables.of_kept_nodes.shown.CatalogShown.TheSendSync as catalog_shown
 use Rattle.core_drain.proofs.of_fleet_tables.of_packed_values.PackedItems.TheSendSync as packed_items
+use Rattle.core_drain.proofs.of_fleet_tables.of_kept_nodes.of_packed_shown.hash.PackedHash.TheSendSync as packed_hash
 use Rattle.core_drain.specs.json_tree.contracts.tree.Items as Items
 use Rattle.core_drain.specs.json_tree.contracts.tree.Members as Members
 use Rattle.core_drain.specs.fleet_rows.contracts.list.Resources as Resources
@@ -76,7 +77,7 @@ module _ (items : IsSend (Items.the_field).row) (members : IsSend (Members.the_f
   node_catalog = search (parts, catalog, catalog_shown.the_field_send) depth 20
 
   node_report : IsSend (Report.the_field).row
-  node_report = search (parts, packed_report) depth 20
+  node_report = search (parts, packed_report, packed_hash.the_send) depth 20
 
   held_report : IsSend (HeldReport.the_field).row
   held_report = search (parts, node_report) depth 20
