@@ -8,6 +8,7 @@ pub mod JoinedNodes
 pub mod Halves
 pub mod GroupRows
 pub mod GroupRooms
+pub mod StartLaws
 pub mod MarkLaws
 pub mod OwnLaws
 pub mod SpanNodes

@@ -20,6 +20,7 @@ use Rattle.kept_nodes.specs.Owned.{IsOwn}
 use Rattle.kept_nodes.specs.declared.counts.Counts.{Counts}
 use Rattle.fleet_tables.proofs.JoinedNodes.{Groups, put_parted}
 use Rattle.fleet_tables.proofs.OwnLaws.{all_marked_own}
+use Rattle.fleet_tables.proofs.StartLaws.{no_starts}
 use Rattle.fleet_tables.proofs.RowBounds.{put_bound, few_part, counted_few}
 use Rattle.kept_nodes.proofs.RowCounts.{nodes_count}
 
@@ -67,10 +68,10 @@ module _ (certname : List ℕ) (active : Option ℤ) where
 
 -- ---- all that is kept
 
-module _ (expiry retention : Option ℤ) (groups : Groups) (total : Counts) (kept : AreKept expiry retention groups total) where
+module _ (expiry retention : Option ℤ) (groups : Groups) (total : Counts) (starts : List Counts) (kept : AreKept expiry retention groups total starts) where
   -- with the node of a mark
   pub marked_kept : (certname : List ℕ) (active : Option ℤ) (others : Groups) (counts : Counts) → joined others ≡ with_node certname (with_activity active) (joined groups) → AllByRecursion IsFilled others
-      → AreCountsOf counts (joined others) → IsWithin counts → AreKept expiry retention others counts
+      → AreCountsOf counts (joined others) → IsWithin counts → AreKept expiry retention others counts []
   marked_kept certname active others counts is filled rows within = (
     kept.0,
     kept.1,
@@ -79,6 +80,7 @@ module _ (expiry retention : Option ℤ) (groups : Groups) (total : Counts) (kep
     rows,
     within,
     subst (AllByRecursion IsOwn) (sym is) (all_marked_own certname active (joined groups) kept.6),
+    no_starts others,
   )
 
   -- its rows can be counted, where one node more can be

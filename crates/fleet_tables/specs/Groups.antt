@@ -1,5 +1,5 @@
 -- Nodes in groups of neighbours, as the tables store them.
-use Rattle.std.specs.Prelude.{◌≡◌, ℕ, ℤ, ◌<◌, ◌≤◌, List, [], ◌∷◌, ◌++◌, Bool, false, length, flat_map, slice_get, Option, IfSome}
+use Rattle.std.specs.Prelude.{◌≡◌, ℕ, ℤ, ◌<◌, ◌≤◌, List, [], ◌∷◌, ◌++◌, Bool, false, length, flat_map, take, slice_get, Option, Some, IfSome}
 use Rattle.std.specs.List.{AllByRecursion}
 use Rattle.std.specs.List.Sorted.{IsStrictlySortedBy}
 use Rattle.std.specs.Ordering.{is_gt}
@@ -55,6 +55,14 @@ IsRowOf entity nodes i part j =
     (ttls : Ttls) (expiry : Option ℤ)
     → (j < length (rows_of entity ttls expiry part)) × (slice_get (rows_of entity ttls expiry nodes) i ≡ slice_get (rows_of entity ttls expiry part) j)
 
+-- so many rows stand before the group at this place
+abbrev pub AreBefore : Entity → List (List Node) → ℕ → ℕ → Type 0
+AreBefore entity groups at before = (ttls : Ttls) (expiry : Option ℤ) → before ≡ length (rows_of entity ttls expiry (joined (take at groups)))
+
+-- each entry has the numbers of rows before the group at its place
+abbrev pub AreStarts : List Counts → List (List Node) → Type 0
+AreStarts starts groups = (at : ℕ) (before : Counts) → slice_get starts at ≡ Some before → AreCountsOf before (joined (take at groups))
+
 -- ---- the group of a certname
 
 -- the first node is above the certname
@@ -70,8 +78,8 @@ AreAbove certname = AllByRecursion (λ node. text_cmp node.certname certname ≡
 
 -- ---- the invariant of all groups
 
-abbrev pub AreKept : Option ℤ → Option ℤ → List (List Node) → Counts → Type 0
-AreKept expiry retention groups total =
+abbrev pub AreKept : Option ℤ → Option ℤ → List (List Node) → Counts → List Counts → Type 0
+AreKept expiry retention groups total starts =
     IfSome expiry IsStampMoment
     × IfSome retention IsStampMoment
     × AllByRecursion IsFilled groups
@@ -79,3 +87,4 @@ AreKept expiry retention groups total =
     × AreCountsOf total (joined groups)
     × IsWithin total
     × AllByRecursion IsOwn (joined groups)
+    × AreStarts starts groups

@@ -6,9 +6,10 @@ ghost use Rattle.checkpoint_spec.specs.fleet_rows.Change.{change_stamp, change_c
 ghost use Rattle.checkpoint_spec.specs.stamp_time.Range.{IsStampMoment};
 ghost use Rattle.checkpoint_spec.specs.history_spec.Trace.{applied_as};
 ghost use Rattle.checkpoint_spec.specs.table_machine.Steps.{find_node, with_node, with_applied, with_retained};
-ghost use Rattle.checkpoint_spec.specs.table_machine.Table as machine;
+ghost use Rattle.checkpoint_spec.specs.table_machine.Table.{Node as MachineNode};
 ghost use Rattle.kept_nodes.specs.Counted.{IsWithin};
-ghost use Rattle.fleet_tables.specs.Groups.{joined, IsFilled, AreFilledOrOne, StandInOrder, AreCountsOf, AreFew, HaveRow, IsRowOf, AreBelow, AreAbove};
+ghost use Rattle.kept_nodes.specs.declared.counts.Counts.{Counts as Rows};
+ghost use Rattle.fleet_tables.specs.Groups.{joined, IsFilled, AreFilledOrOne, StandInOrder, AreBefore, AreCountsOf, AreFew, AreStarts, HaveRow, IsRowOf, AreBelow, AreAbove};
 ghost use Rattle.kept_nodes.specs.Places.{left_by_purge};
 ghost use Rattle.fleet_tables.specs.Rooms.{IsRoomAt, IsFirstFor};
 
@@ -57,14 +58,22 @@ pub(crate) fn group_with<'a>(groups: &'a [Group], certname: &Text) -> Option<&'a
     Some(&groups[group_of(groups, certname.as_str())])
 }
 
-/// The index of the group with row i of an entity, and the row's index within the group.
-pub(crate) fn group_of_row(groups: &[Group], entity: Entity, i: usize) -> (usize, usize)
-    requires { HaveRow entity i (joined groups.now) }
+/// The index of the group with row i of an entity, and the row's index within the group. `starts` has the numbers of rows before
+/// each of the first groups; behind them the groups are counted one by one.
+pub(crate) fn group_of_row(
+    groups: &[Group],
+    starts: &[Counts],
+    entity: Entity,
+    i: usize,
+) -> (usize, usize)
+    requires starts { AreStarts starts.now groups.now }
+    requires row { HaveRow entity i (joined groups.now) }
     ensures place { result.0 < length groups.now }
-    ensures row { (group : List machine.Node) → slice_get groups.now result.0 ≡ Some group → IsRowOf entity (joined groups.now) i group result.1 }
+    ensures row { (group : List MachineNode) → slice_get groups.now result.0 ≡ Some group → IsRowOf entity (joined groups.now) i group result.1 }
 {
-    let mut behind = i;
-    'passing: for at in 0..groups.len() {
+    let (first, before) = start_of_row(starts, entity, i);
+    let mut behind = i - before;
+    'passing: for at in first..groups.len() {
         let count = groups[at].count(entity);
         if behind < count {
             return (at, behind);
@@ -72,6 +81,55 @@ pub(crate) fn group_of_row(groups: &[Group], entity: Entity, i: usize) -> (usize
         behind -= count;
     }
     unreachable!()
+}
+
+// The last entry with at most i rows before its group: its place, and this number of rows.
+fn start_of_row(starts: &[Counts], entity: Entity, i: usize) -> (usize, usize)
+    ensures within { result.1 ≤ i }
+    ensures before { (groups : List (List MachineNode)) → AreStarts starts.now groups → AreBefore entity groups result.0 result.1 }
+{
+    let mut low = 0;
+    let mut before = 0;
+    let mut high = starts.len();
+    'halves: while high - low > 1 {
+        let middle = low + (high - low) / 2;
+        let count = starts[middle].of(entity);
+        if count <= i {
+            low = middle;
+            before = count;
+        } else {
+            high = middle;
+        }
+    }
+    (low, before)
+}
+
+/// Counts the rows before each group for which `starts` has no entry yet.
+pub(crate) fn fill_starts(starts: &mut Vec<Counts>, groups: &[Group]) -> Result<(), AllocError>
+    requires few { AreFew (joined groups.now) }
+    requires starts { AreStarts starts.old.items groups.now }
+    ensures { AreStarts starts.new.items groups.now }
+{
+    'filling: for at in starts.len()..groups.len() {
+        let next = next_start(starts.as_slice(), groups);
+        starts.push(next)?;
+    }
+    Ok(())
+}
+
+// The numbers of rows before the group behind those that have an entry.
+fn next_start(starts: &[Counts], groups: &[Group]) -> Counts
+    requires few { AreFew (joined groups.now) }
+    requires starts { AreStarts starts.now groups.now }
+    requires within { length starts.now ≤ length groups.now }
+    ensures { AreCountsOf result (joined (take (length starts.now) groups.now)) }
+{
+    if starts.is_empty() {
+        return Counts::none();
+    }
+    let last = starts.len() - 1;
+    let known = starts[last];
+    known.plus(&groups[last].counts())
 }
 
 /// The numbers of rows of all nodes.
@@ -101,13 +159,16 @@ pub(crate) fn first_group(alloc: Global, groups: &[Group]) -> Result<Vec<Group>,
 /// Splits the group for this certname if it has at least `MOST` nodes. Without memory the nodes are unchanged.
 pub(crate) fn split_for(
     groups: &mut Vec<Group>,
+    starts: &mut Vec<Counts>,
     alloc: Global,
     certname: &Text,
 ) -> Result<(), AllocError>
     requires order { StandInOrder (joined groups.old.items) }
     requires filled { AllByRecursion IsFilled groups.old.items }
+    requires starts { AreStarts starts.old.items groups.old.items }
     ensures same { joined groups.new.items ≡ joined groups.old.items }
     ensures filled { AllByRecursion IsFilled groups.new.items }
+    ensures starts { AreStarts starts.new.items groups.new.items }
 {
     if groups.is_empty() {
         return Ok(());
@@ -116,15 +177,17 @@ pub(crate) fn split_for(
     if groups[at].len() < MOST {
         return Ok(());
     }
+    starts.truncate(at + 1);
     split_at(groups, alloc, at)
 }
 
 fn split_at(groups: &mut Vec<Group>, alloc: Global, at: usize) -> Result<(), AllocError>
     requires place { at < length groups.old.items }
-    requires long { (group : List machine.Node) → slice_get groups.old.items at ≡ Some group → 2 ≤ length group }
+    requires long { (group : List MachineNode) → slice_get groups.old.items at ≡ Some group → 2 ≤ length group }
     requires filled { AllByRecursion IsFilled groups.old.items }
     ensures same { joined groups.new.items ≡ joined groups.old.items }
     ensures filled { AllByRecursion IsFilled groups.new.items }
+    ensures before { take at groups.new.items ≡ take at groups.old.items }
 {
     let room = room_for_more(alloc, groups.len())?;
     let upper = groups[at].split(alloc)?;
@@ -139,13 +202,15 @@ pub(crate) fn begin(groups: &mut Vec<Group>, first: Vec<Group>)
     ensures some { 0 < length groups.new.items }
     ensures same { joined groups.new.items ≡ joined groups.old.items }
     ensures filled { AreFilledOrOne groups.new.items }
+    ensures starts { (starts : List Rows) → AreStarts starts groups.old.items → AreStarts starts groups.new.items }
 {
     if groups.is_empty() {
         *groups = first;
     }
 }
 
-/// Applies a change for which room was made. `total` has the numbers of rows before; the result has those after.
+/// Applies a change for which room was made. `total` has the numbers of rows before. Returns the index of the group that changed,
+/// and the numbers of rows after.
 pub(crate) fn apply_change(
     groups: &mut Vec<Group>,
     total: &Counts,
@@ -156,7 +221,7 @@ pub(crate) fn apply_change(
     receipt: u64,
     received: Option<Moment>,
     change: Change,
-) -> Counts
+) -> (usize, Counts)
     requires some { 0 < length groups.old.items }
     requires order { StandInOrder (joined groups.old.items) }
     requires filled { AreFilledOrOne groups.old.items }
@@ -169,14 +234,16 @@ pub(crate) fn apply_change(
     ensures nodes { joined groups.new.items
         ≡ with_node (change_certname change) (with_applied ttls.now retention.now (applied_as receipt received change)) (joined groups.old.items) }
     ensures filled { AllByRecursion IsFilled groups.new.items }
-    ensures rows { AreCountsOf result (joined groups.new.items) }
-    ensures within { IsWithin result }
+    ensures rows { AreCountsOf result.1 (joined groups.new.items) }
+    ensures within { IsWithin result.1 }
+    ensures place { result.0 < length groups.new.items }
+    ensures before { take result.0 groups.new.items ≡ take result.0 groups.old.items }
 {
     let at = group_of(groups.as_slice(), change.certname().as_str());
     let group = &mut groups[at];
     let others = total.without(&group.counts());
     group.apply(ttls, retention, shown, new, receipt, received, change);
-    others.plus(&group.counts())
+    (at, others.plus(&group.counts()))
 }
 
 /// Removes the nodes that a purge at this moment removes, and the groups that are empty afterwards.

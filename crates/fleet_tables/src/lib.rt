@@ -28,7 +28,12 @@
 //!
 //! Nodes are stored in groups of neighbours (`Group`). `reserve` splits a group of 256 nodes or more before a node in it is added
 //! or changed. So a command needs one binary search, moves and recounts the nodes of one group at most, and adjusts the total. A
-//! row look-up scans the groups before the row, then searches its group. A purge drops empty groups but doesn't merge small ones.
+//! purge drops empty groups but doesn't merge small ones.
+//!
+//! A row look-up halves among the first groups, of which `State` knows how many rows stand before each. From the last of them it
+//! counts group by group, then it searches the row's group. `prepare` makes all groups known. A change cuts those behind its group,
+//! and a purge, a sweep of reports or a mark cuts all.
+//!
 //! The room for a new node has a list for twice the number of all nodes, at 8 bytes each, since no contract says how full the
 //! node's group is.
 //!

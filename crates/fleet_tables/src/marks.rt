@@ -175,6 +175,7 @@ impl State {
             mark.active,
         )?;
         self.total = total;
+        self.starts.clear();
         Ok(())
     }
 }

@@ -2,6 +2,7 @@
 ghost use Rattle.std.specs.Prelude.{◌≡◌};
 
 use crate::group::Group;
+use crate::groups::fill_starts;
 use crate::state::State;
 use crate::tables::Tables;
 use fleet_rows::Entity;
@@ -43,7 +44,8 @@ impl State {
     fn prepare(&mut self, alloc: Global, entity: Entity) -> Result<(), AllocError>
         ensures { self.new ≡ self.old }
     {
-        prepare_groups(&mut self.groups, alloc, entity)
+        prepare_groups(&mut self.groups, alloc, entity)?;
+        fill_starts(&mut self.starts, self.groups.as_slice())
     }
 }
 

@@ -38,6 +38,8 @@ pub(crate) struct State {
     // Sorted by certname.
     pub(crate) groups: Vec<Group>,
     pub(crate) total: Counts,
+    // The numbers of rows before each of the first groups. A change cuts the list behind its group, and `prepare` fills it.
+    pub(crate) starts: Vec<Counts>,
 }
 
 impl Model for State {
@@ -54,7 +56,7 @@ impl Model for State {
 
     ghost view = { λ a. record { ttls = a.ttls; expiry = a.expiry; retention = a.retention; nodes = joined a.groups.items } };
 
-    ghost invariant = { λ a. AreKept a.expiry a.retention a.groups.items a.total };
+    ghost invariant = { λ a. AreKept a.expiry a.retention a.groups.items a.total a.starts.items };
 }
 
 impl State {
@@ -68,6 +70,7 @@ impl State {
             retention: None,
             groups: Vec::new(alloc),
             total: Counts::none(),
+            starts: Vec::new(alloc),
         }
     }
 
@@ -75,7 +78,7 @@ impl State {
     pub(crate) fn split_for(&mut self, alloc: Global, certname: &Text) -> Result<(), AllocError>
         ensures { self.new ≡ self.old }
     {
-        groups::split_for(&mut self.groups, alloc, certname)
+        groups::split_for(&mut self.groups, &mut self.starts, alloc, certname)
     }
 
     /// Makes room for a change. On an error the computed values are given back.
@@ -193,7 +196,7 @@ impl State {
         let ttls = self.ttls;
         let retention = self.retention;
         groups::begin(&mut self.groups, first);
-        self.total = groups::apply_change(
+        let (at, total) = groups::apply_change(
             &mut self.groups,
             &self.total,
             &ttls,
@@ -204,6 +207,8 @@ impl State {
             received,
             change,
         );
+        self.total = total;
+        self.starts.truncate(at + 1);
     }
 
     /// The rank of the newest command of this kind in the node's present life; None for reports.
@@ -235,7 +240,12 @@ impl State {
         requires { i < length (table_rows entity self.now) }
         ensures { IfOk result (λ row. IsRowAt row entity (table_rows entity self.now) i) }
     {
-        let (at, place) = groups::group_of_row(self.groups.as_slice(), entity, i);
+        let (at, place) = groups::group_of_row(
+            self.groups.as_slice(),
+            self.starts.as_slice(),
+            entity,
+            i,
+        );
         self.groups[at].row(alloc, &self.ttls, &self.expiry, entity, place)
     }
 
@@ -252,6 +262,7 @@ impl State {
         requires { IsStampMoment m }
         ensures { self.new ≡ purge m self.old }
     {
+        self.starts.clear();
         groups::purge(&mut self.groups, &self.ttls, m, &self.expiry);
         self.total = groups::rows_in(self.groups.as_slice());
     }
@@ -262,6 +273,7 @@ impl State {
         ensures { self.new ≡ retain m self.old }
     {
         self.retention = later(m, self.retention);
+        self.starts.clear();
         groups::retain(&mut self.groups, &self.ttls, &self.retention);
         self.total = groups::rows_in(self.groups.as_slice());
     }

@@ -1,5 +1,6 @@
-use Rattle.std.proofs.Common.{◌∙◌, ℕ, ◌+◌, ◌<◌, List, length, take, drop, refl, sym, ap, subst}
+use Rattle.std.proofs.Common.{◌∙◌, ℕ, ◌+◌, ◌<◌, List, length, take, drop, refl, sym, ap, subst, arith}
 use Rattle.std.proofs.Math.ListN.{set}
+use Rattle.std.proofs.lemmas.List.{take-set-le}
 use Rattle.std.proofs.lemmas.Option.{slice_get_read}
 use Rattle.checkpoint_spec.specs.fleet_rows.Change.{change_certname}
 use Rattle.checkpoint_spec.specs.fleet_rows.declared.applied.Applied.{Applied}
@@ -94,6 +95,9 @@ returns-clause-rows c =
     let there = slice_get_read groups (length groups) at g refl within c.index_mut-group.ensures.value in
     subst (λ total. AreCountsOf total (joined (set groups at c.apply.new.self))) (sym c.plus.ensures)
     (counted_anew groups at g there c.args.total.now c.counts.result c.requires.total c.counts.ensures c.without-others.result c.counts-2.result c.apply.new.self c.without-others.ensures within c.counts-2.ensures)
+
+pub returns-clause-before : goal.returns-clause-before
+returns-clause-before c = take-set-le c.group_of-at.result c.args.groups.now.items c.group_of-at.result c.apply.new.self (omega arith)
 
 pub returns-clause-within : goal.returns-clause-within
 returns-clause-within c =

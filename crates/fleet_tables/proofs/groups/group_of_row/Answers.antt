@@ -2,7 +2,14 @@ use Rattle.std.proofs.Common.{◌∙◌, ◌<◌, ◌≤◌, length, refl, sym, 
 use Rattle.std.proofs.lemmas.Option.{slice_get_read, same_Some}
 use Rattle.fleet_tables.specs.Groups.{joined, IsRowOf}
 use Rattle.fleet_tables.proofs.GroupRows.{row_here, row_behind, no_row}
+use Rattle.fleet_tables.proofs.StartLaws.{row_from}
 use Rattle.fleet_tables.proofs.groups.group_of_row.Goals as goal
+
+pub passing-init : goal.passing-init
+passing-init c =
+    let groups = c.args.groups.now in
+    row_from c.args.entity groups c.start_of_row-first.result.0 c.start_of_row-first.result.1 c.args.i c.start_of_row-first.ensures.within
+    (c.start_of_row-first.ensures.before groups c.requires.starts) c.requires.row
 
 pub returns-then-behind-count-clause-row : goal.returns-then-behind-count-clause-row
 returns-then-behind-count-clause-row c = λ group e.

@@ -1,13 +1,15 @@
-use Rattle.std.proofs.Common.{IfSome, sym, subst}
+use Rattle.std.proofs.Common.{IfSome, List, sym, subst}
 use Rattle.std.specs.List.{AllByRecursion}
 use Rattle.checkpoint_spec.specs.stamp_time.Range.{IsStampMoment}
-use Rattle.fleet_tables.specs.Groups.{joined, AreFew, AreCountsOf, StandInOrder}
+use Rattle.fleet_tables.specs.Groups.{joined, AreFew, AreCountsOf, AreStarts, StandInOrder}
 use Rattle.fleet_tables.proofs.JoinedNodes.{Groups}
 use Rattle.checkpoint_spec.proofs.of_history_laws.Moments.{later_is_stamp}
 use Rattle.kept_nodes.specs.Owned.{IsOwn}
 use Rattle.fleet_tables.proofs.OwnLaws.{all_retained_own}
 use Rattle.fleet_tables.proofs.NodeOrder.{retained_in_order}
 use Rattle.fleet_tables.proofs.RowBounds.{counted_few, retained_few}
+use Rattle.fleet_tables.proofs.StartLaws.{no_starts}
+use Rattle.kept_nodes.specs.declared.counts.Counts.{Counts}
 use Rattle.fleet_tables.proofs.state.State.retain.Goals as goal
 
 pub rows_in-self-inside-requires : goal.rows_in-self-inside-requires
@@ -27,4 +29,5 @@ invariant_of-self c =
       subst (λ (groups : Groups). AreCountsOf c.rows_in-self-inside.result (joined groups)) c.as_slice.ensures.value c.rows_in-self-inside.ensures.rows,
       c.rows_in-self-inside.ensures.within,
       subst (AllByRecursion IsOwn) (sym c.retain.ensures.nodes) (all_retained_own inside.ttls c.later-self-inside.result (joined inside.groups.items) c.self.invariant.6),
+      subst (λ (starts : List Counts). AreStarts starts c.retain.new.groups.items) (sym c.clear.ensures.items) (no_starts c.retain.new.groups.items),
     )
