@@ -1,21 +1,14 @@
 -- Rows of one group have one text, and so one number.
-use Rattle.std.proofs.Common.{◌≡◌, ◌∙◌, ℕ, ◌+◌, ◌<◌, List, [], ◌∷◌, ◌++◌, Bool, true, false, Option, Some, None, refl, sym, ap, subst, inl, inr, drop, get_or, length, true≢false}
-use Rattle.std.proofs.lemmas.Cmp.{nat_list_cmp_total}
+use Rattle.std.proofs.Common.{◌≡◌, ℕ, ◌+◌, ◌<◌, List, [], ◌∷◌, ◌++◌, true, Option, Some, refl, sym, ap, subst, inl, inr, drop, get_or, length}
 use Rattle.std.proofs.lemmas.List.{drop_more}
-use Rattle.std.proofs.lemmas.Map.Text.{is_eq-slice_cmp}
-use Rattle.std.proofs.lemmas.Option.{none-some}
-use Rattle.std.proofs.lemmas.Slice.Eq.{bytes_eq-Decides}
-use Rattle.std.specs.BTreeMap.{BTreeMap, UpdatesBy}
-use Rattle.std.specs.Cmp.{signed_Decides, eq_by_cmp_equiv}
-use Rattle.std.specs.Cmp.Lexicographic.{slice_cmp}
-use Rattle.std.specs.Map.{KeepsOthers}
-use Rattle.std.specs.Ordering.{is_eq, nat_cmp}
+use Rattle.std.specs.Cmp.{signed_Decides}
+use Rattle.std.specs.HashSet.{HashSet}
 use Rattle.std.specs.Prelude.{unwrap_or}
-use Rattle.std.specs.Str.{bytes_eq}
 use Rattle.std.specs.declared.alloc.Global.{Global}
 use Rattle.std.specs.declared.vec.Vec.{Vec}
 use Rattle.fleet_tables.proofs.of_plain_laws.Booleans.{both_true}
 use Rattle.fleet_tables.specs.fleet_rows.Cell.{CellValue}
+use Rattle.pattern_port.specs.declared.keys.Keys.{Keys}
 use Rattle.query_plan.specs.means_spec.Cells.{same_cell, same_cells}
 use Rattle.same_text.proofs.AlikeLaws.{one_text}
 use Rattle.query_plan.specs.table_spec.Rows.{Cells}
@@ -38,63 +31,39 @@ one_key_text (x ∷ xs) (y ∷ ys) h =
     let parts = both_true (same_cell x y) (same_cells xs ys) h in
     λ i. one_cell_text x y parts.0 i ++ 44 ∷ one_key_text xs ys parts.1 i
 
--- ---- numbers
-
-abbrev Places : Type 0
-Places = BTreeMap (Vec ℕ Global) ℕ
-
-apart_step : (bs cs ks : List ℕ) (b : Bool) → bytes_eq cs ks ≡ b → bytes_eq bs cs ≡ false → bs ≡ ks → b ≡ false
-apart_step bs cs ks false e n is = refl
-apart_step bs cs ks true e n is = absurd (true≢false (sym ((bytes_eq-Decides bs cs).1 (is ∙ sym ((bytes_eq-Decides cs ks).0 e))) ∙ n))
-
-apart : (bs cs ks : List ℕ) → bytes_eq bs cs ≡ false → is_eq (slice_cmp nat_cmp bs ks) ≡ true → is_eq (slice_cmp nat_cmp cs ks) ≡ false
-apart bs cs ks n y =
-    is_eq-slice_cmp cs ks ∙ apart_step bs cs ks (bytes_eq cs ks) refl n ((bytes_eq-Decides bs ks).0 (sym (is_eq-slice_cmp bs ks) ∙ y))
-
-module _ (m n : Places) (text : List ℕ) (w : Option ℕ) (put : UpdatesBy (λ (x y : Vec ℕ Global). slice_cmp nat_cmp x.items y.items) (λ (k : Vec ℕ Global). slice_cmp nat_cmp text k.items) m n w) where
-  others : (cs : List ℕ) → bytes_eq text cs ≡ false → number_of n cs ≡ number_of m cs
-  unfolding KeepsOthers
-  others cs e =
-      put.3 (λ (k : Vec ℕ Global). is_eq (slice_cmp nat_cmp cs k.items)) (λ x y. (eq_by_cmp_equiv nat_list_cmp_total).congr cs x.items y.items) (λ k. apart text cs k.items e)
-
-  kept_step : (b : Bool) (cs : List ℕ) (v : ℕ) → bytes_eq text cs ≡ b → number_of m text ≡ None → number_of m cs ≡ Some v → number_of n cs ≡ Some v
-  kept_step true cs v e none h = absurd (none-some v (sym none ∙ ap (number_of m) ((bytes_eq-Decides text cs).0 e) ∙ h))
-  kept_step false cs v e none h = others cs e ∙ h
-
-  -- a new text changes no other number
-  pub numbers_stay : number_of m text ≡ None → (cs : List ℕ) (v : ℕ) → number_of m cs ≡ Some v → number_of n cs ≡ Some v
-  numbers_stay none cs v h = kept_step (bytes_eq text cs) cs v refl none h
-
 -- ---- marks
+
+abbrev Numbers : Type 0
+Numbers = HashSet (Vec ℕ Global) Keys
 
 module _ (key : Cells → Cells) where
   -- the mark of each is the number of its text
-  abbrev pub HaveNumbers : Places → List Marked → Type 0
-  HaveNumbers places [] = Unit {0}
-  HaveNumbers places (m ∷ ms) = (number_of places (key_text (key (row_marked m))) ≡ Some m.mark) × HaveNumbers places ms
+  abbrev pub HaveNumbers : Numbers → List Marked → Type 0
+  HaveNumbers texts [] = Unit {0}
+  HaveNumbers texts (m ∷ ms) = (number_of texts (key_text (key (row_marked m))) ≡ Some m.mark) × HaveNumbers texts ms
 
-  numbers-kept : (old new : Places) → ((cs : List ℕ) (v : ℕ) → number_of old cs ≡ Some v → number_of new cs ≡ Some v) → (ms : List Marked) → HaveNumbers old ms → HaveNumbers new ms
+  numbers-kept : (old new : Numbers) → ((cs : List ℕ) (v : ℕ) → number_of old cs ≡ Some v → number_of new cs ≡ Some v) → (ms : List Marked) → HaveNumbers old ms → HaveNumbers new ms
   numbers-kept old new kept [] h = tt
   numbers-kept old new kept (m ∷ ms) h = (kept (key_text (key (row_marked m))) m.mark h.0, numbers-kept old new kept ms h.1)
 
-  numbers-push : (places : Places) (ms : List Marked) (m : Marked) → HaveNumbers places ms → number_of places (key_text (key (row_marked m))) ≡ Some m.mark → HaveNumbers places (ms ++ m ∷ [])
-  numbers-push places [] m h one = (one, tt)
-  numbers-push places (x ∷ ms) m h one = (h.0, numbers-push places ms m h.1 one)
+  numbers-push : (texts : Numbers) (ms : List Marked) (m : Marked) → HaveNumbers texts ms → number_of texts (key_text (key (row_marked m))) ≡ Some m.mark → HaveNumbers texts (ms ++ m ∷ [])
+  numbers-push texts [] m h one = (one, tt)
+  numbers-push texts (x ∷ ms) m h one = (h.0, numbers-push texts ms m h.1 one)
 
   -- one row more
-  pub numbers_on : (old new : Places) (ms more : List Marked) (m : Marked) → more ≡ ms ++ m ∷ [] → ((cs : List ℕ) (v : ℕ) → number_of old cs ≡ Some v → number_of new cs ≡ Some v)
+  pub numbers_on : (old new : Numbers) (ms more : List Marked) (m : Marked) → more ≡ ms ++ m ∷ [] → ((cs : List ℕ) (v : ℕ) → number_of old cs ≡ Some v → number_of new cs ≡ Some v)
       → number_of new (key_text (key (row_marked m))) ≡ Some m.mark → HaveNumbers old ms → HaveNumbers new more
   numbers_on old new ms more m is kept one h = subst (HaveNumbers new) (sym is) (numbers-push new ms m (numbers-kept old new kept ms h) one)
 
-  marks-have : (places : Places) (ms : List Marked) → HaveNumbers places ms → HaveMarks (λ x. unwrap_or (number_of places (key_text (key x))) 0) ms
-  marks-have places [] h = tt
-  marks-have places (m ∷ ms) h = (sym (ap (λ o. unwrap_or o 0) h.0), marks-have places ms h.1)
+  marks-have : (texts : Numbers) (ms : List Marked) → HaveNumbers texts ms → HaveMarks (λ x. unwrap_or (number_of texts (key_text (key x))) 0) ms
+  marks-have texts [] h = tt
+  marks-have texts (m ∷ ms) h = (sym (ap (λ o. unwrap_or o 0) h.0), marks-have texts ms h.1)
 
-  pub are_marked : (places : Places) (ms : List Marked) → HaveNumbers places ms → AreMarked key ms
-  are_marked places ms h = record {
-    mark = λ x. unwrap_or (number_of places (key_text (key x))) 0;
-    is_mark = λ x y e. ap (λ text. unwrap_or (number_of places text) 0) (one_key_text (key x) (key y) e);
-    have = marks-have places ms h;
+  pub are_marked : (texts : Numbers) (ms : List Marked) → HaveNumbers texts ms → AreMarked key ms
+  are_marked texts ms h = record {
+    mark = λ x. unwrap_or (number_of texts (key_text (key x))) 0;
+    is_mark = λ x y e. ap (λ text. unwrap_or (number_of texts text) 0) (one_key_text (key x) (key y) e);
+    have = marks-have texts ms h;
   }
 
 module _ (b : Cells → ℕ) where

@@ -1,13 +1,13 @@
 -- Rows with marks, and rows sorted into parts by their marks. Rows of one group have the same mark.
-use Rattle.std.specs.Prelude.{◌≡◌, ℕ, List, [], ◌∷◌, ◌++◌, ◌==◌, true, Option, Some, None, map, filter, slice_get}
-use Rattle.std.specs.BTreeMap.{BTreeMap, get_by}
-use Rattle.std.specs.Cmp.Lexicographic.{slice_cmp}
+use Rattle.std.specs.Prelude.{◌≡◌, ℕ, List, [], ◌∷◌, ◌++◌, ◌==◌, true, Option, Some, None, map, filter, position, slice_get}
 use Rattle.std.specs.Fmt.{signed_decimal}
-use Rattle.std.specs.Ordering.{nat_cmp}
+use Rattle.std.specs.HashSet.{HashSet}
+use Rattle.std.specs.Str.{bytes_eq}
 use Rattle.std.specs.declared.alloc.Global.{Global}
 use Rattle.std.specs.declared.vec.Vec.{Vec}
 use Rattle.std.proofs.Common.{inl, inr}
 use Rattle.fleet_tables.specs.fleet_rows.Cell.{CellValue}
+use Rattle.pattern_port.specs.declared.keys.Keys.{Keys}
 use Rattle.query_plan.specs.means_spec.Groups.{in_one_group}
 use Rattle.same_text.specs.Alike.{same_text}
 use Rattle.query_plan.specs.table_spec.Rows.{Cells}
@@ -24,9 +24,9 @@ abbrev pub key_text : Cells → List ℕ
 key_text [] = []
 key_text (x ∷ xs) = cell_text x ++ 44 ∷ key_text xs
 
--- the number of a text
-abbrev pub number_of : BTreeMap (Vec ℕ Global) ℕ → List ℕ → Option ℕ
-number_of places text = get_by (λ (k : Vec ℕ Global). slice_cmp nat_cmp text k.items) places
+-- the number of a text: its position among the texts, which stay in the order in which they came
+abbrev pub number_of : HashSet (Vec ℕ Global) Keys → List ℕ → Option ℕ
+number_of texts text = position (λ (k : Vec ℕ Global). bytes_eq text k.items) texts.keys
 
 abbrev pub row_marked : Marked → Cells
 row_marked m = row_of m.row

@@ -8,8 +8,9 @@ ghost use Rattle.std.specs.Prelude.{◌≡◌, ◌++◌, ◌∷◌, ◌==◌, �
 ghost use Rattle.query_rows.specs.Indexed.{places_at, places_under, holds_place, IsRising};
 
 use crate::marks::{known_number, number_of};
+use indexmap::IndexSet;
+use pattern_port::Keys;
 use std::alloc::{AllocError, Global};
-use std::collections::BTreeMap;
 
 /// The indices under one number, in order.
 #[derive(Drop)]
@@ -20,7 +21,7 @@ pub struct PlaceList {
 /// The number of each text, and the indices under each number.
 #[derive(Drop)]
 pub struct Index {
-    pub(crate) numbers: BTreeMap<Vec<u8>, usize>,
+    pub(crate) numbers: IndexSet<Vec<u8>, Keys>,
     pub(crate) lists: Vec<PlaceList>,
 }
 
@@ -59,12 +60,12 @@ fn put_place(
 }
 
 impl Index {
-    /// An empty index. It allocates no memory.
-    pub(crate) fn new(alloc: Global) -> Index
+    /// An empty index, which hashes its texts under these keys. It allocates no memory.
+    pub(crate) fn new(alloc: Global, keys: Keys) -> Index
         ensures { IsRising result 0 }
     {
         Index {
-            numbers: BTreeMap::new(alloc),
+            numbers: IndexSet::with_hasher(alloc, keys),
             lists: Vec::new(alloc),
         }
     }

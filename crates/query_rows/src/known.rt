@@ -11,6 +11,7 @@ use crate::index::{Index, note};
 use crate::marks::append_cell;
 use fleet_tables::fleet_rows::{Cell, Cells, Entity};
 use paging_text::Lines;
+use pattern_port::Keys;
 use query_plan::{Shape, Stage};
 use std::alloc::{AllocError, Global};
 use std::marker::Model;
@@ -98,10 +99,10 @@ fn bytes_of(alloc: Global, text: &str) -> Result<Vec<u8>, AllocError>
 }
 
 // The index of the rows by their cells.
-fn by_cells(alloc: Global, rows: &[Cells]) -> Result<Index, AllocError>
+fn by_cells(alloc: Global, keys: Keys, rows: &[Cells]) -> Result<Index, AllocError>
     ensures { IfOk result (IsIndexOf key_text rows.now) }
 {
-    let mut index = Index::new(alloc);
+    let mut index = Index::new(alloc, keys);
     for i in 0..rows.len() {
         let text = text_of_cells(alloc, rows[i].as_slice())?;
         note(alloc, &mut index, text, i)?;
@@ -110,11 +111,16 @@ fn by_cells(alloc: Global, rows: &[Cells]) -> Result<Index, AllocError>
 }
 
 // The index of the rows by their nodes.
-fn by_node(alloc: Global, entity: Option<Entity>, rows: &[Cells]) -> Result<Index, AllocError>
+fn by_node(
+    alloc: Global,
+    keys: Keys,
+    entity: Option<Entity>,
+    rows: &[Cells],
+) -> Result<Index, AllocError>
     ensures there { IfOk result (IsIndexOf (node_in entity) rows.now) }
     ensures rising { IfOk result (λ index. IsRising index (length rows.now)) }
 {
-    let mut index = Index::new(alloc);
+    let mut index = Index::new(alloc, keys);
     for i in 0..rows.len() {
         let text = bytes_of(alloc, node_in(entity, rows[i].as_slice()))?;
         note(alloc, &mut index, text, i)?;
@@ -122,32 +128,38 @@ fn by_node(alloc: Global, entity: Option<Entity>, rows: &[Cells]) -> Result<Inde
     Ok(index)
 }
 
-/// The rows of a stage. The rows of the last stage aren't looked up.
-pub fn known_of(alloc: Global, stage: &Stage, last: bool, rows: Lines) -> Result<Known, AllocError>
+/// The rows of a stage. The rows of the last stage aren't looked up. Texts are hashed under the keys.
+pub fn known_of(
+    alloc: Global,
+    keys: Keys,
+    stage: &Stage,
+    last: bool,
+    rows: Lines,
+) -> Result<Known, AllocError>
     ensures { IfOk result (λ known. known ≡ rows) }
 {
     let sought = if last || rows.as_slice().len() <= FEW {
         Lookup::Nowhere
     } else {
-        lookup_in(alloc, stage, rows.as_slice())?
+        lookup_in(alloc, keys, stage, rows.as_slice())?
     };
     Ok(Known { rows, sought })
 }
 
 // A level within `subquery` has whole rows, which are looked up by node.
-fn lookup_in(alloc: Global, stage: &Stage, rows: &[Cells]) -> Result<Lookup, AllocError>
+fn lookup_in(alloc: Global, keys: Keys, stage: &Stage, rows: &[Cells]) -> Result<Lookup, AllocError>
     ensures { IfOk result (IsLookupIn rows.now) }
 {
     match stage.shape {
-        Shape::Whole => Ok(Lookup::ByNode(stage.entity, by_node(alloc, stage.entity, rows)?)),
-        Shape::Answers(..) => Ok(Lookup::ByCells(by_cells(alloc, rows)?)),
+        Shape::Whole => Ok(Lookup::ByNode(stage.entity, by_node(alloc, keys, stage.entity, rows)?)),
+        Shape::Answers(..) => Ok(Lookup::ByCells(by_cells(alloc, keys, rows)?)),
     }
 }
 
 /// The rows of facts, indexed by node.
-pub fn fact_rows(alloc: Global, rows: Lines) -> Result<FactRows, AllocError>
+pub fn fact_rows(alloc: Global, keys: Keys, rows: Lines) -> Result<FactRows, AllocError>
     ensures { IfOk result (λ facts. facts ≡ rows) }
 {
-    let nodes = by_node(alloc, Some(Entity::Facts), rows.as_slice())?;
+    let nodes = by_node(alloc, keys, Some(Entity::Facts), rows.as_slice())?;
     Ok(FactRows { rows, nodes })
 }

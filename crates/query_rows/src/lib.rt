@@ -8,7 +8,8 @@
 //! texts only on patterns that were read before. `known_of` and `fact_rows` store exactly the rows that they are given.
 //!
 //! Costs: a row is compared with the few rows and literals that have its text. An array of more than eight literals is indexed.
-//! Marks of n rows take n log n steps.
+//! Texts are found by their hashes, under keys that the caller passes. If the keys are random, marks of n rows and n look-ups take
+//! n steps on average, whatever values were chosen by someone who doesn't know the keys.
 #![tactic(auto)]
 
 mod cells;

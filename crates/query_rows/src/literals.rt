@@ -25,6 +25,7 @@ use crate::index::{Index, note, places_under};
 use crate::marks::{append_moment, append_seen};
 use crate::seen::Seen;
 use fleet_tables::stamp_time::Moment;
+use pattern_port::Keys;
 use query_plan::Step;
 use query_plan::query_spec::{Literal, Scalar};
 use same_text::append_same;
@@ -135,10 +136,10 @@ fn note_literal(
 }
 
 // The index of the literals.
-fn by_value(alloc: Global, literals: &[Literal]) -> Result<Index, AllocError>
+fn by_value(alloc: Global, keys: Keys, literals: &[Literal]) -> Result<Index, AllocError>
     ensures { IfOk result (AreLiteralsOf literals.now) }
 {
-    let mut index = Index::new(alloc);
+    let mut index = Index::new(alloc, keys);
     for i in 0..literals.len() {
         note_literal(alloc, &mut index, &literals[i].value, i)?;
     }
@@ -187,23 +188,27 @@ pub(crate) fn equals_known(
     Ok(is_equal_at(seen, literals, places_under(index, text.as_slice())))
 }
 
-fn ready_of<'a>(alloc: Global, step: &'a Step<'a>) -> Result<Ready<'a>, AllocError>
+fn ready_of<'a>(alloc: Global, keys: Keys, step: &'a Step<'a>) -> Result<Ready<'a>, AllocError>
     ensures { IfOk result (λ ready. ready ≡ step_of step.now) }
 {
     let index = match step {
-        Step::Lists(_, literals) if literals.len() > FEW => Some(by_value(alloc, literals)?),
+        Step::Lists(_, literals) if literals.len() > FEW => Some(by_value(alloc, keys, literals)?),
         _ => None,
     };
     Ok(Ready { step, index })
 }
 
-/// The steps, with indices of the literals of their arrays.
-pub fn ready_steps<'a>(alloc: Global, steps: &'a [Step<'a>]) -> Result<Vec<Ready<'a>>, AllocError>
+/// The steps, with indices of the literals of their arrays. Texts are hashed under the keys.
+pub fn ready_steps<'a>(
+    alloc: Global,
+    keys: Keys,
+    steps: &'a [Step<'a>],
+) -> Result<Vec<Ready<'a>>, AllocError>
     ensures { IfOk result (λ ready. ready.items ≡ steps_of steps.now) }
 {
     let mut ready = Vec::new(alloc);
     for step in steps {
-        ready.push(ready_of(alloc, step)?)?;
+        ready.push(ready_of(alloc, keys, step)?)?;
     }
     Ok(ready)
 }

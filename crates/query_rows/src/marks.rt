@@ -3,7 +3,9 @@
 //! Rows of one group have the same mark. Sorting doesn't bring them together: `[1, 2]` and `[1.0, 2]` are the same, and the total
 //! order has other values between them. So each row gets a text of the cells that it is grouped by, which is equal for cells that
 //! are the same ([`same_text`]). The row's mark is the number of that text. Rows with the same mark are still compared.
-ghost use Rattle.std.specs.Prelude.{◌≡◌, ◌++◌, ℕ, List, IfOk, OnOk, Some, None};
+//!
+//! Numbers are found by a hash of the text. The caller passes its keys: if they are random, nobody can choose texts that collide.
+ghost use Rattle.std.specs.Prelude.{◌≡◌, ◌++◌, ℕ, List, IfOk, OnOk, Some};
 ghost use Rattle.std.specs.Fmt.{signed_decimal};
 ghost use Rattle.fleet_tables.specs.fleet_rows.Cell.{cells_of};
 ghost use Rattle.query_plan.specs.means_spec.Groups.{key_of};
@@ -15,11 +17,12 @@ use crate::cells::cell_in;
 use crate::seen::Seen;
 use fleet_tables::fleet_rows::{Cell, Cells, Entity};
 use fleet_tables::stamp_time::Moment;
+use indexmap::IndexSet;
 use itoa::Buffer;
+use pattern_port::Keys;
 use query_plan::query_spec::Name;
 use same_text::append_same;
 use std::alloc::{AllocError, Global};
-use std::collections::BTreeMap;
 
 /// A row and its mark.
 #[derive(Drop)]
@@ -85,41 +88,27 @@ fn text_of(
 
 /// The number of a text. A new text gets the next number.
 pub(crate) fn number_of(
-    places: &mut BTreeMap<Vec<u8>, usize>,
+    texts: &mut IndexSet<Vec<u8>, Keys>,
     text: Vec<u8>,
 ) -> Result<usize, AllocError>
-    ensures number { IfOk result (λ number. number_of places.new text.items ≡ Some number) }
-    ensures kept { OnOk result ((other : List ℕ) (n : ℕ) → number_of places.old other ≡ Some n → number_of places.new other ≡ Some n) }
+    ensures number { IfOk result (λ number. number_of texts.new text.items ≡ Some number) }
+    ensures kept { OnOk result ((other : List ℕ) (n : ℕ) → number_of texts.old other ≡ Some n → number_of texts.new other ≡ Some n) }
 {
-    match known_number(places, text.as_slice()) {
-        Some(number) => Ok(number),
-        None => new_number(places, text),
-    }
+    let (number, _) = texts.insert_full(text)?;
+    Ok(number)
 }
 
 /// The number of a text, if it has one.
-pub(crate) fn known_number(places: &BTreeMap<Vec<u8>, usize>, text: &[u8]) -> Option<usize>
-    ensures { result ≡ number_of places.now text.now }
+pub(crate) fn known_number(texts: &IndexSet<Vec<u8>, Keys>, text: &[u8]) -> Option<usize>
+    ensures { result ≡ number_of texts.now text.now }
 {
-    match places.get(text) {
-        Some(number) => Some(*number),
-        None => None,
-    }
-}
-
-fn new_number(places: &mut BTreeMap<Vec<u8>, usize>, text: Vec<u8>) -> Result<usize, AllocError>
-    requires { number_of places.old text.items ≡ None }
-    ensures number { IfOk result (λ number. number_of places.new text.items ≡ Some number) }
-    ensures kept { OnOk result ((other : List ℕ) (n : ℕ) → number_of places.old other ≡ Some n → number_of places.new other ≡ Some n) }
-{
-    let number = places.len();
-    places.insert(text, number)?;
-    Ok(number)
+    texts.get_index_of(text)
 }
 
 /// The rows with their marks, for grouping by these columns.
 pub fn with_marks<'a>(
     alloc: Global,
+    keys: Keys,
     entity: Option<Entity>,
     columns: &[Name],
     rows: &'a [Cells],
@@ -127,12 +116,12 @@ pub fn with_marks<'a>(
     ensures rows { IfOk result (λ all. rows_marked all.items ≡ rows.now) }
     ensures marks { IfOk result (λ all. AreMarked (key_of entity columns.now) all.items) }
 {
-    let mut places = BTreeMap::new(alloc);
+    let mut texts = IndexSet::with_hasher(alloc, keys);
     let mut all = Vec::new(alloc);
     for cells in rows {
         let row = cells.as_slice();
         let text = text_of(alloc, entity, columns, row)?;
-        let mark = number_of(&mut places, text)?;
+        let mark = number_of(&mut texts, text)?;
         all.push(Marked { row, mark })?;
     }
     Ok(all)

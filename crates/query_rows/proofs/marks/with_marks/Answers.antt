@@ -23,9 +23,9 @@ loop-cells-preserved c =
           copied_on rows c.loop-cells.cells-index row (rows_marked old) (rows_marked c.push.new.self.items)
           (slice_get-get_or rows c.loop-cells.cells-index row c.loop-cells-test.true ∙ ap (λ (x : Cells). Some x) (sym c.cells-item.is)) pushed c.loop-cells.invariant.rows;
       numbers =
-          numbers_on key c.loop-cells.places c.number_of.new.places old c.push.new.self.items m c.in_ok-push.ensures.items c.in_ok-mark.ensures.kept
-          (ap (number_of c.number_of.new.places) (sym c.in_ok-text.ensures) ∙ c.in_ok-mark.ensures.number) c.loop-cells.invariant.numbers;
+          numbers_on key c.loop-cells.texts c.number_of.new.texts old c.push.new.self.items m c.in_ok-push.ensures.items c.in_ok-mark.ensures.kept
+          (ap (number_of c.number_of.new.texts) (sym c.in_ok-text.ensures) ∙ c.in_ok-mark.ensures.number) c.loop-cells.invariant.numbers;
     }
 
 pub returns-clause-marks : goal.returns-clause-marks
-returns-clause-marks c = are_marked (key_of c.args.entity c.args.columns.now) c.loop-cells.places c.loop-cells.all.items c.loop-cells.invariant.numbers
+returns-clause-marks c = are_marked (key_of c.args.entity c.args.columns.now) c.loop-cells.texts c.loop-cells.all.items c.loop-cells.invariant.numbers

@@ -8,5 +8,5 @@ abbrev pub invariant-loop-cells : goal.invariant-loop-cells
 invariant-loop-cells l =
     record {
       rows : rows_marked l.all.items ++ drop l.cells-index l.rows ≡ l.rows;
-      numbers : HaveNumbers (key_of l.entity l.columns) l.places l.all.items;
+      numbers : HaveNumbers (key_of l.entity l.columns) l.texts l.all.items;
     }
