@@ -26,7 +26,7 @@ use std::thread::Threads;
 pub enum StartFault {
     /// An argument isn't UTF-8.
     NotUtf8,
-    /// There was no memory for the arguments.
+    /// There was no memory for the arguments, or no random bytes for the keys of hashes.
     Memory,
     /// A file of the queue can't be opened.
     QueueFile,

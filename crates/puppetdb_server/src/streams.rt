@@ -6,10 +6,11 @@ use fleet_app::{Exit, StartFault, needs_disks, run_program};
 use fleet_ports::{Disk, Disks};
 use front_tcp::TcpFront;
 use json_tree::{MOST_PAYLOAD, Text};
-use pattern_regex::RegexPatterns;
+use pattern_regex::{Keys, RegexPatterns};
 use port_real::{FileDisk, StdSink, StdSource};
 use std::alloc::{AllocError, Global};
 use std::env;
+use std::hash::RandomState;
 use std::io::ErrorKind;
 use std::process::ExitCode;
 use std::sync::Wait;
@@ -18,20 +19,30 @@ use std::thread::Threads;
 /// Runs the program, and answers its exit status. It opens the files only if the arguments name a command that uses them. The
 /// runtime is passed twice, because it may start threads and wait only in `main`. First it takes 16 MiB of memory in one piece,
 /// and gives them back. If that fails, nothing is lost. From then on, glibc keeps for the process the memory that is given back.
+///
+/// A command that uses files hashes texts under random keys. If the system gives no random bytes, the program ends as if memory
+/// ran out, before it opens a file. So no query is answered under fixed keys.
 pub(crate) fn program<R: Threads + Wait + Sync>(rt: &HostRuntime, threads: &R) -> ExitCode {
     keep_memory(rt.alloc());
     let words = match words_of(rt) {
         Ok(words) => words,
-        Err(fault) => return run::<NoDisk, R>(rt, threads, Err(fault)),
+        Err(fault) => return run::<NoDisk, R>(rt, threads, Keys::Fixed, Err(fault)),
     };
     match needs_disks(rt.alloc(), words.as_slice()) {
         Ok(true) => {}
-        Ok(false) => return run(rt, threads, Ok((words.as_slice(), NoDisk::four()))),
-        Err(_) => return run::<NoDisk, R>(rt, threads, Err(StartFault::Memory)),
+        Ok(false) => {
+            let start = Ok((words.as_slice(), NoDisk::four()));
+            return run(rt, threads, Keys::Fixed, start);
+        }
+        Err(_) => return run::<NoDisk, R>(rt, threads, Keys::Fixed, Err(StartFault::Memory)),
     }
+    let keys = match RandomState::new(rt) {
+        Ok(state) => Keys::Drawn(state),
+        Err(_) => return run::<NoDisk, R>(rt, threads, Keys::Fixed, Err(StartFault::Memory)),
+    };
     match open_files(rt) {
-        Ok(disks) => run(rt, threads, Ok((words.as_slice(), disks))),
-        Err(fault) => run::<FileDisk, R>(rt, threads, Err(fault)),
+        Ok(disks) => run(rt, threads, keys, Ok((words.as_slice(), disks))),
+        Err(fault) => run::<FileDisk, R>(rt, threads, keys, Err(fault)),
     }
 }
 
@@ -42,17 +53,18 @@ fn keep_memory(alloc: Global) {
     let _ = Vec::<u8>::with_capacity(alloc, MOST_PAYLOAD as usize);
 }
 
-// Runs the program over the standard streams.
+// Runs the program over the standard streams. The keys are fixed if there is no start, or no query in the command.
 fn run<D: Disk + Drop + Send, R: Threads + Wait + Sync>(
     rt: &HostRuntime,
     threads: &R,
+    keys: Keys,
     start: Result<(&[Text], Disks<D>), StartFault>,
 ) -> ExitCode {
     let mut spool = StdSource::new(rt);
     let mut out = StdSink::new(rt);
     let mut errors = StdErrors::new(rt);
     let mut front = TcpFront::new(rt);
-    let mut patterns = RegexPatterns::new(rt.alloc());
+    let mut patterns = RegexPatterns::with_keys(rt.alloc(), keys);
     let Exit { code, .. } = run_program(
         threads,
         rt.alloc(),

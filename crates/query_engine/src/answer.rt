@@ -19,6 +19,7 @@ use crate::shown::{distinct, output_names, shown_rows};
 use crate::sums::{Sum, sum_of};
 use fleet_tables::fleet_rows::{Cell, Cells, Entity, Names};
 use paging_text::{Lines, OutRows, page};
+use pattern_port::Keys;
 use query_plan::ast_tree::{makes_groups, shown_list};
 use query_plan::query_spec::{Function, Name, Paging, Place, Selected, Selection};
 use query_rows::{cell_in, column_names, copy_or_null};
@@ -151,6 +152,7 @@ fn paged(names: Names, rows: Lines, paging: &Paging) -> Result<Lines, AllocError
 // The rows of the groups, or the first sum that is too large.
 fn grouped<'q>(
     alloc: Global,
+    keys: Keys,
     entity: Option<Entity>,
     shown: &'q [Selected],
     group: &[Name],
@@ -158,7 +160,7 @@ fn grouped<'q>(
 ) -> Result<Answered<'q>, AllocError>
     ensures { IfOk result (IsGrouped entity shown.now group.now rows.now) }
 {
-    let found = groups(alloc, entity, group, rows)?;
+    let found = groups(alloc, keys, entity, group, rows)?;
     let all = found.as_slice();
     match large_sums(entity, all, shown) {
         Some(place) => Ok(Answered::TooLarge(place)),
@@ -184,6 +186,7 @@ fn fitting_rows(
 /// The answer from these selected rows of the entity.
 pub(crate) fn answer_of<'q>(
     alloc: Global,
+    keys: Keys,
     entity: Option<Entity>,
     shown: &'q Option<Selection>,
     group: &[Name],
@@ -193,7 +196,14 @@ pub(crate) fn answer_of<'q>(
     ensures { IfOk result (IsAnswered entity shown.now group.now paging.now rows) }
 {
     if makes_groups(shown_list(shown), group) {
-        match grouped(alloc, entity, shown_list(shown), group, rows.as_slice())? {
+        match grouped(
+            alloc,
+            keys,
+            entity,
+            shown_list(shown),
+            group,
+            rows.as_slice(),
+        )? {
             Answered::TooLarge(place) => Ok(Answered::TooLarge(place)),
             Answered::Rows(lines) => {
                 let names = output_names(alloc, entity, shown)?;

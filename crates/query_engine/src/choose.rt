@@ -112,7 +112,15 @@ fn choose_at<L: Ledger, P: Patterns>(
         (map (λ c. P.made_from c) compiled.now) found.now (stage_of stage.now)) (slice_one (table_rows entity tables.now) place)) }
 {
     let row = tables.row(entity, place, walk)?;
-    let facts = facts_for(alloc, tables, entity, row.cells.as_slice(), names, walk)?;
+    let facts = facts_for(
+        alloc,
+        patterns.keys(),
+        tables,
+        entity,
+        row.cells.as_slice(),
+        names,
+        walk,
+    )?;
     let scene = Scene {
         alloc,
         tables,

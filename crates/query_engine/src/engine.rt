@@ -115,7 +115,7 @@ fn stage_rows<'q, L: Ledger, P: Patterns>(
         (stage_of stage.now)) }
 {
     let list = stage.steps.as_slice();
-    let ready = ready_steps(alloc, list)?;
+    let ready = ready_steps(alloc, patterns.keys(), list)?;
     let names = facts_of(alloc, list)?;
     let pins = pins_for(alloc, reading, list)?;
     let steps = ready.as_slice();
@@ -126,7 +126,15 @@ fn stage_rows<'q, L: Ledger, P: Patterns>(
     match stage.shape {
         Shape::Whole => Ok(Answered::Rows(rows)),
         Shape::Answers(shown, group, paging) => {
-            answer_of(alloc, stage.entity, shown, group, paging, rows)
+            answer_of(
+                alloc,
+                patterns.keys(),
+                stage.entity,
+                shown,
+                group,
+                paging,
+                rows,
+            )
         }
     }
 }
@@ -171,7 +179,7 @@ fn solve<'q, L: Ledger, P: Patterns>(
         match answer {
             Answered::Rows(rows) => {
                 let last = found.len() + 1 == stages.len();
-                found.push(known_of(alloc, stage, last, rows)?)?;
+                found.push(known_of(alloc, patterns.keys(), stage, last, rows)?)?;
             }
             Answered::TooLarge(place) => return Ok(Solved::TooLarge(place)),
         }

@@ -10,6 +10,7 @@ ghost use Rattle.query_engine.specs.Fetched.{fact_row, fetched, slice_one};
 use fleet_tables::fleet_rows::{Cell, Entity};
 use fleet_tables::{Steps, Tables};
 use paging_text::Lines;
+use pattern_port::Keys;
 use query_rows::{FactRows, fact_rows, node_in};
 use same_text::json_tree::Text;
 use std::alloc::{AllocError, Global};
@@ -69,6 +70,7 @@ fn read_facts<L: Ledger>(
 /// The rows of the facts with these names, of the node of a row.
 pub(crate) fn facts_for<L: Ledger>(
     alloc: Global,
+    keys: Keys,
     tables: &Tables,
     entity: Entity,
     row: &[Cell],
@@ -80,5 +82,5 @@ pub(crate) fn facts_for<L: Ledger>(
 {
     let node = node_in(Some(entity), row);
     let facts = read_facts(alloc, tables, node, names, walk)?;
-    fact_rows(alloc, facts)
+    fact_rows(alloc, keys, facts)
 }

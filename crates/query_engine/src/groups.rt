@@ -1,7 +1,7 @@
 //! Groups rows.
 //!
 //! A row is compared only with the first rows of groups that have its mark, and a group is collected only from the rows with its
-//! mark. So no row is compared with every group.
+//! mark. So no row is compared with every group. Marks are found by hashes, under keys that the reader of patterns hands out.
 ghost use Rattle.std.specs.Prelude.{◌≡◌, [], ◌∷◌, IfOk, OnOk, map, filter};
 ghost use Rattle.std.specs.List.{list_any};
 ghost use Rattle.fleet_tables.specs.fleet_rows.Cell.{cells_of, cell_cmp};
@@ -15,6 +15,7 @@ ghost use Rattle.query_rows.specs.Marked.{part_at, row_marked};
 ghost use Rattle.query_rows.specs.Referred.{row_of, rows_of};
 
 use fleet_tables::fleet_rows::{Cell, Cells, Entity};
+use pattern_port::Keys;
 use query_plan::query_spec::Name;
 use query_rows::{Marked, Part, cell_in, parts_of, put, same_cell, seen_of, with_marks};
 use same_text::json_tree::Json;
@@ -217,13 +218,14 @@ fn groups_of<'a>(
 
 fn grouped<'a>(
     alloc: Global,
+    keys: Keys,
     entity: Option<Entity>,
     columns: &[Name],
     rows: &'a [Cells],
 ) -> Result<Vec<RowGroup<'a>>, AllocError>
     ensures { IfOk result (λ found. map group_seen found.items ≡ grouped (key_of entity columns.now) rows.now) }
 {
-    let all = with_marks(alloc, entity, columns, rows)?;
+    let all = with_marks(alloc, keys, entity, columns, rows)?;
     let list = all.as_slice();
     let firsts = first_rows(alloc, entity, columns, list)?;
     let parts = parts_of(alloc, list)?;
@@ -258,6 +260,7 @@ fn one_group<'a>(alloc: Global, rows: &'a [Cells]) -> Result<Vec<RowGroup<'a>>, 
 /// The groups of the rows, sorted by their cells. Without columns to group by, one group has all rows.
 pub(crate) fn groups<'a>(
     alloc: Global,
+    keys: Keys,
     entity: Option<Entity>,
     columns: &[Name],
     rows: &'a [Cells],
@@ -266,6 +269,6 @@ pub(crate) fn groups<'a>(
 {
     match columns {
         [] => one_group(alloc, rows),
-        _ => grouped(alloc, entity, columns, rows),
+        _ => grouped(alloc, keys, entity, columns, rows),
     }
 }

@@ -12,7 +12,10 @@
 //! filter names is one row more for each row that is read.
 //!
 //! Each step of a filter tests a single row. The rows of a level within `in` or `subquery`, and the literals of a long array, are
-//! indexed by a text once. So a row is compared with few of them. Grouping n rows takes n log n steps.
+//! indexed by a text once. So a row is compared with few of them. Grouping takes a look-up for each row, and then sorts the groups.
+//!
+//! Texts are found by their hashes, under the keys of the pattern reader. If these are random, a look-up takes constant time on
+//! average, whatever values were chosen by someone who doesn't know the keys. Under fixed keys such values make it slow.
 //!
 //! The clauses of [`select`]:
 //! - SumTooLarge has the position of the first sum that overflows, BadPattern that of one of the query's patterns (`answer`,
