@@ -34,6 +34,7 @@ use Rattle.core_claims.proofs.of_core_state.PutStands.{put_stands, unput_stands,
 use Rattle.core_claims.proofs.of_core_state.Standing.{BothTell, CoreStands, IsSoundCore, is_down, core_up, up_stands, down_stands, logs_of, at, logs, q_each, known_store, amid_old, amid_begun, first_written, then_written, nothing_within, queue_within, store_within, store_images}
 use Rattle.core_claims.proofs.of_core_state.Tests.{not_claimed_stands}
 use Rattle.core_settles.specs.declared.answers.Settled.{Settled}
+use Rattle.core_settles.specs.declared.answers.Settled.TheVariants as settled
 use Rattle.core_settles.specs.declared.answers.Verdict.{Verdict}
 use Rattle.core_settles.specs.declared.answers.Verdict.TheVariants as verdict
 use Rattle.core_settles.specs.Ends.{HasFreed, dead_of, HasDiscarded, HasApplied, HasFailed}
