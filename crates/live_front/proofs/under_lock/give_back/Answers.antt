@@ -1,0 +1,8 @@
+use Rattle.live_front.specs.FrontCalls.{gave}
+use Rattle.live_front.proofs.Closing.{one_hold}
+use Rattle.live_front.proofs.under_lock.give_back.Goals as goal
+
+pub returns-clause-call : goal.returns-clause-call
+returns-clause-call g c =
+    let r = c.hold.ensures.one_hold in
+    one_hold (gave c.args.link) c.args.pass.now c.hold.new.pass r.0 r.1 r.2 r.5.shown.now r.5.left.now r.5.shows r.5.leaves r.5.met tt r.3 r.7 r.8
