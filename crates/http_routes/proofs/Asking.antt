@@ -27,16 +27,16 @@ use Rattle.routes_spec.specs.query_answer.RefusalText.{refusal_text}
 use Rattle.routes_spec.specs.query_answer.Told.{Told}
 use Rattle.routes_spec.specs.query_answer.declared.refusal.QueryRefusal.TheVariants.{BadPattern, SumTooLarge}
 use Rattle.routes_spec.specs.Answers as meant
-use Rattle.routes_spec.specs.Answers.{nothing_met, error, IsSummedAnswer, IsRowsAnswer, IsToldAnswer, IsQuestionAnswer}
+use Rattle.routes_spec.specs.Answers.{error, IsSummedAnswer, IsRowsAnswer, IsToldAnswer, IsQuestionAnswer}
 use Rattle.routes_spec.specs.Parameters.{parameters_of}
 use Rattle.routes_spec.specs.Reading.{ReadsFront, IsReadOf, IsReadOn}
 use Rattle.routes_spec.specs.Routes.{query_of}
 use Rattle.routes_spec.specs.Queries.{Question as Meant, IsQuestion, IsToldOn}
 use Rattle.routes_spec.specs.declared.route.Route.{Route}
 use Rattle.http_routes.specs.declared.question.Question.{Question}
-use Rattle.http_routes.specs.Asked.{paged_answer, IsPagedAnswer, IsUnpagedAnswer, IsPickedAnswer, AnswersAsked}
+use Rattle.http_routes.specs.Asked.{paged_answer, IsPagedAnswer, IsUnpagedAnswer, IsPickedAnswer, IsAskAnswer, AnswersAsked}
 use Rattle.http_routes.proofs.Results.{if_is, has_code}
-use Rattle.http_routes.specs.Moves.{Answers, IsOneRefused, Reads, IsAskAnswer, IsAskMet}
+use Rattle.http_routes.specs.Moves.{IsOneRefused, Reads}
 use Rattle.http_routes.specs.Questions.{SamePaging, Asks, IfAsked}
 
 -- ---- patterns that were read
@@ -195,7 +195,7 @@ module _ (w : World) (ends : Bool) (q : Level) (u v : List ℕ → Option ParamV
 
 -- ---- a question
 
-answers_on : {E : Type 0} (before now : Option (List Asked)) (count later : ℕ) (B C : List Asked → Type 0) (P Q : List Asked → Answer → Type 0) (result : Result Answer E)
+pub answers_on : {E : Type 0} (before now : Option (List Asked)) (count later : ℕ) (B C : List Asked → Type 0) (P Q : List Asked → Answer → Type 0) (result : Result Answer E)
     → ((asked : List Asked) → B asked → C asked) → ((asked : List Asked) (a : Answer) → P asked a → Q asked a)
     → AnswersAsked before now count later B P result → AnswersAsked before now count later C Q result
 answers_on before now count later B C P Q (Ok a) front on (asked, reads, h) = (asked, reads, on asked a h)
@@ -228,36 +228,36 @@ module _ (w : World) (ends : Bool) (route : Route) (kept : Question) (question :
 module _ {E : Type 0} (w : World) (route : Route) (r : Request) (before now : Option (List Asked)) (count later : ℕ) where
   kept_asked : (kept : Question) (result : Result Answer E) → IfAsked (Some kept) (IsQuestion r.method (parameters_of (query_of r.target)) r.body)
       → ((question : Meant) → Asks kept question → AnswersAsked before now count later (IsReadOf route question.query) (IsQuestionAnswer w written_text r.ends route (Some question)) result)
-      → Answers (IsAskMet before now count later) (IsReadOn route r) (IsAskAnswer w written_text route r) result
+      → AnswersAsked before now count later (IsReadOn route r) (IsAskAnswer w written_text route r) result
   kept_asked kept result (Some question, asks, is) told = by_result result (told question asks)
     where
       by_result : (a : Result Answer E) → AnswersAsked before now count later (IsReadOf route question.query) (IsQuestionAnswer w written_text r.ends route (Some question)) a
-          → Answers (IsAskMet before now count later) (IsReadOn route r) (IsAskAnswer w written_text route r) a
-      by_result (Ok a) (asked, reads, h) = (record { submitted = None; asked = asked }, (refl, reads), (Some question, is, (h.0, h.1, h.2)))
-      by_result (Err e) (asked, reads, inl (other, h)) = (record { submitted = None; asked = asked }, (refl, reads), inl (other, (Some question, is, (h.0, h.1, h.2))))
-      by_result (Err e) (asked, reads, inr (inl none)) = (record { submitted = None; asked = asked }, (refl, reads), inr (refl, inl none))
+          → AnswersAsked before now count later (IsReadOn route r) (IsAskAnswer w written_text route r) a
+      by_result (Ok a) (asked, reads, h) = (asked, reads, (Some question, is, (h.0, h.1, h.2)))
+      by_result (Err e) (asked, reads, inl (other, h)) = (asked, reads, inl (other, (Some question, is, (h.0, h.1, h.2))))
+      by_result (Err e) (asked, reads, inr (inl none)) = (asked, reads, inr (inl none))
       by_result (Err e) (asked, reads, inr (inr (q, told, front))) =
-          (record { submitted = None; asked = asked }, (refl, reads), inr (refl, inr (q, record { question = question; is_question = is; told = told }, front)))
+          (asked, reads, inr (inr (q, record { question = question; is_question = is; told = told }, front)))
   kept_asked kept result (None, asks, is) told = absurd asks
 
   pub question_asked : (o : Option Question) (kept : Question) (result : Result Answer E) → o ≡ Some kept → IfAsked o (IsQuestion r.method (parameters_of (query_of r.target)) r.body)
       → ((question : Meant) → Asks kept question → AnswersAsked before now count later (IsReadOf route question.query) (IsQuestionAnswer w written_text r.ends route (Some question)) result)
-      → Answers (IsAskMet before now count later) (IsReadOn route r) (IsAskAnswer w written_text route r) result
+      → AnswersAsked before now count later (IsReadOn route r) (IsAskAnswer w written_text route r) result
   question_asked o kept result is so told =
       kept_asked kept result (subst (λ k. IfAsked k (IsQuestion r.method (parameters_of (query_of r.target)) r.body)) is so) told
 
 module _ {E : Type 0} (w : World) (route : Route) (r : Request) (before : Option (List Asked)) (count : ℕ) where
   none_was_asked : (result : Result Answer E) → IfAsked None (IsQuestion r.method (parameters_of (query_of r.target)) r.body) → IfOk result (λ a. a ≡ error r.ends 400 (codes "bad body"))
-      → Answers (IsAskMet before before count count) (IsReadOn route r) (IsAskAnswer w written_text route r) result
-  none_was_asked (Ok a) (None, asks, is) same = (nothing_met, (refl, reads_nothing before count), (None, is, (refl, same)))
+      → AnswersAsked before before count count (IsReadOn route r) (IsAskAnswer w written_text route r) result
+  none_was_asked (Ok a) (None, asks, is) same = ([], reads_nothing before count, (None, is, (refl, same)))
   none_was_asked (Ok a) (Some question, asks, is) same = absurd asks
-  none_was_asked (Err e) (None, asks, is) same = (nothing_met, (refl, reads_nothing before count), inl (error r.ends 400 (codes "bad body"), (None, is, (refl, refl))))
+  none_was_asked (Err e) (None, asks, is) same = ([], reads_nothing before count, inl (error r.ends 400 (codes "bad body"), (None, is, (refl, refl))))
   none_was_asked (Err e) (Some question, asks, is) same = absurd asks
 
   pub nothing_asked : (o : Option Question) (result : Result Answer E) → o ≡ None → IfAsked o (IsQuestion r.method (parameters_of (query_of r.target)) r.body)
-      → IfOk result (λ a. a ≡ error r.ends 400 (codes "bad body")) → Answers (IsAskMet before before count count) (IsReadOn route r) (IsAskAnswer w written_text route r) result
+      → IfOk result (λ a. a ≡ error r.ends 400 (codes "bad body")) → AnswersAsked before before count count (IsReadOn route r) (IsAskAnswer w written_text route r) result
   nothing_asked o result is so told = none_was_asked result (subst (λ k. IfAsked k (IsQuestion r.method (parameters_of (query_of r.target)) r.body)) is so) told
 
-  pub not_asked : (result : Result Answer E) → IfOk result (λ _. ⊥) → Answers (IsAskMet before before count count) (IsReadOn route r) (IsAskAnswer w written_text route r) result
+  pub not_asked : (result : Result Answer E) → IfOk result (λ _. ⊥) → AnswersAsked before before count count (IsReadOn route r) (IsAskAnswer w written_text route r) result
   not_asked (Ok a) never = absurd never
-  not_asked (Err e) never = (nothing_met, (refl, reads_nothing before count), inr (refl, inl refl))
+  not_asked (Err e) never = ([], reads_nothing before count, inr (inl refl))

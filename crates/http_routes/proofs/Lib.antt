@@ -6,7 +6,7 @@ pub mod QuestionLaws
 pub mod LinkSteps
 pub mod LinkCourses
 pub mod PostedLaws
-pub mod Posting
+pub mod RoutedLaws
 pub mod Asking
 pub mod Answering
 pub mod Prints

@@ -1,5 +1,5 @@
--- What is served on a link, request by request.
-use Rattle.std.proofs.Common.{◌≡◌, ◌∙◌, inl, inr, ℕ, ◌+◌, ℤ, List, [], ◌∷◌, ◌++◌, length, take, arith, refl, sym, ap, subst, Bool, true, false, Option, Some, None, Result, Ok, Err, append-nil}
+-- What is served on a link, request by request, over any notion of an answer.
+use Rattle.std.proofs.Common.{◌≡◌, ◌∙◌, inl, inr, ℕ, ◌+◌, List, [], ◌∷◌, ◌++◌, length, take, arith, refl, sym, ap, subst, Bool, true, false, Option, Some, None, Result, Ok, Err, append-nil}
 use Rattle.std.proofs.lemmas.List.{length-append}
 use Rattle.std.proofs.Math.Seq.{take-append-add}
 use Rattle.std.proofs.KnownBytes.{Appends-nil, Appends-trans}
@@ -15,17 +15,12 @@ use Rattle.http_spec.specs.HeadText.{print_line, HasNoHead}
 use Rattle.http_spec.proofs.Fronts.{still_fault, still_request}
 use Rattle.http_spec.proofs.Links.{some_in}
 use Rattle.http_front.specs.Next.{Gives, IsBad, IsEnded, StopsIn}
-use Rattle.routes_spec.specs.fleet_rows.declared.command.Command.{Command}
-use Rattle.routes_spec.specs.means_spec.OutRows.{OutRows}
-use Rattle.routes_spec.specs.means_spec.World.{World}
-use Rattle.routes_spec.specs.Answers.{Met}
-use Rattle.routes_spec.specs.Links.{Stop, whole, cut_off, broken, IsGiven, IsMetBefore, AreAnswered, written}
-use Rattle.fleet_rows.specs.declared.submitted.Submitted.{Submitted}
+use Rattle.routes_spec.specs.Links.{Stop, whole, cut_off, broken, AreAnsweredBy, written}
 use Rattle.http_routes.specs.declared.link.LinkEnd.{LinkEnd}
 use Rattle.http_routes.specs.declared.link.LinkEnd.TheVariants.{Closed, ReadFault, WriteFault}
 use Rattle.http_routes.specs.declared.send.Sent.{Sent}
 use Rattle.http_routes.specs.declared.send.Sent.TheVariants.{Whole, Memory, Failed}
-use Rattle.http_routes.specs.Course.{Outside, MovesOutside, IsPart, IsSent, IfFaultAnswer, answer_in, end_behind, end_of, AreKnown, AreWritten, Serves, ServedSoFar, GoesOn, IsAnswered, IsServedNext}
+use Rattle.http_routes.specs.Course.{IsPart, IsSent, IfFaultAnswer, answer_in, end_behind, end_of, AreKnown, AreWritten, ServesBy, ServedSoFarBy, GoesOnBy, IsAnsweredBy, IsServedNextBy}
 
 -- ---- bytes
 
@@ -72,11 +67,11 @@ no_bytes_are_cut = inl (omega arith, no_head)
         let all = ap length begins.bytes_are in
         omega (arith, some, size, all, length-append text rest)
 
-module _ {H : Type 0} (Step : Command → Submitted → H → H → Type 0) (w : World) (print : OutRows → List ℕ) (now : ℤ) where
+module _ {M X : Type 0} (Given : Request → M → Answer → Type 0) (Before : Request → M → Type 0) (Changes : M → X → X → Type 0) where
   -- ---- a request more
 
-  abbrev pub served_more : (end : LinkEnd) (known left : Option (List ℕ)) (old mid new : Outside H) (held between holds : Option (List ℕ))
-      → GoesOn Step w print now known left old mid held between → Serves Step w print now end left mid new between holds → Serves Step w print now end known old new held holds
+  abbrev pub served_more : (end : LinkEnd) (known left : Option (List ℕ)) (old mid new : X) (held between holds : Option (List ℕ))
+      → GoesOnBy Given Before Changes known left old mid held between → ServesBy Given Before Changes end left mid new between holds → ServesBy Given Before Changes end known old new held holds
   served_more end known left old mid new held between holds first behind = record {
     bytes = first.gives.text ++ behind.bytes;
     requests = first.request ∷ behind.requests;
@@ -91,13 +86,13 @@ module _ {H : Type 0} (Step : Command → Submitted → H → H → Type 0) (w :
 
   -- ---- the last request
 
-  module _ (r : Request) (known left : Option (List ℕ)) (old new : Outside H) (held holds : Option (List ℕ)) (gives : Gives r known left) where
+  module _ (r : Request) (known left : Option (List ℕ)) (old new : X) (held holds : Option (List ℕ)) (gives : Gives r known left) where
     begins : BeginsWithRequest r (gives.text ++ rest_of left) (rest_of left)
     begins = still_request r gives.text (rest_of left) [] gives.is_request
 
     -- it has this answer, behind which answering stops so
-    last : (end : LinkEnd) (stop : Stop) (met : Met) (a : Answer) → MovesOutside Step met old new → AreAnswered w print now (gives.text ++ rest_of left) (r ∷ []) stop (met ∷ []) (a ∷ [])
-        → AreWritten end stop (answer_text a ++ []) held holds → Serves Step w print now end known old new held holds
+    last : (end : LinkEnd) (stop : Stop) (met : M) (a : Answer) → Changes met old new → AreAnsweredBy Given Before (gives.text ++ rest_of left) (r ∷ []) stop (met ∷ []) (a ∷ [])
+        → AreWritten end stop (answer_text a ++ []) held holds → ServesBy Given Before Changes end known old new held holds
     last end stop met a moved answered is_written = record {
       bytes = gives.text ++ rest_of left;
       requests = r ∷ [];
@@ -111,54 +106,55 @@ module _ {H : Type 0} (Step : Command → Submitted → H → H → Type 0) (w :
     }
 
     -- it ends the link
-    closing : (met : Met) (a : Answer) → r.ends ≡ true → IsGiven w print now r met a
-        → AreAnswered w print now (gives.text ++ rest_of left) (r ∷ []) (whole closed) (met ∷ []) (a ∷ [])
+    closing : (met : M) (a : Answer) → r.ends ≡ true → Given r met a
+        → AreAnsweredBy Given Before (gives.text ++ rest_of left) (r ∷ []) (whole closed) (met ∷ []) (a ∷ [])
     closing met a ends given =
         (rest_of left, begins, inl (given, inl (record { ends = ends; requests_are = refl; stop_is = refl; mets_are = refl; answers_are = refl })))
 
     -- the link broke behind it
-    breaking : (met : Met) (a : Answer) → r.ends ≡ false → IsGiven w print now r met a
-        → AreAnswered w print now (gives.text ++ rest_of left) (r ∷ []) broken (met ∷ []) (a ∷ [])
+    breaking : (met : M) (a : Answer) → r.ends ≡ false → Given r met a
+        → AreAnsweredBy Given Before (gives.text ++ rest_of left) (r ∷ []) broken (met ∷ []) (a ∷ [])
     breaking met a stays given = (rest_of left, begins, inl (given, inr (stays, (refl, refl))))
 
     -- there was no memory for its answer
-    cutting : (met : Met) → IsMetBefore w print now r met → AreAnswered w print now (gives.text ++ rest_of left) (r ∷ []) cut_off (met ∷ []) (memory_answer ∷ [])
+    cutting : (met : M) → Before r met → AreAnsweredBy Given Before (gives.text ++ rest_of left) (r ∷ []) cut_off (met ∷ []) (memory_answer ∷ [])
     cutting met before = (rest_of left, begins, inr (record { met_before = before; no_memory = refl }, refl, refl, refl, refl))
 
     -- all of its answer was sent
-    whole_sent : (ends : Bool) (met : Met) (a : Answer) → r.ends ≡ ends → MovesOutside Step met old new → IsGiven w print now r met a → Appends held holds (answer_text a)
-        → IsServedNext Step w print now (end_of Whole ends) known left old new held holds
+    whole_sent : (ends : Bool) (met : M) (a : Answer) → r.ends ≡ ends → Changes met old new → Given r met a → Appends held holds (answer_text a)
+        → IsServedNextBy Given Before Changes (end_of Whole ends) known left old new held holds
     whole_sent true met a is moved given sent = last Closed (whole closed) met a moved (closing met a is given) (tt, alone (answer_text a) held holds sent)
     whole_sent false met a is moved given sent =
         record { request = r; met = met; answer = a; gives = gives; stays = is; given = given; moved = moved; appended = sent }
 
     -- a part of it was
-    part_sent : (ends : Bool) (met : Met) (a : Answer) → r.ends ≡ ends → MovesOutside Step met old new → IsGiven w print now r met a → IsPart (answer_text a) held holds
-        → Serves Step w print now WriteFault known old new held holds
+    part_sent : (ends : Bool) (met : M) (a : Answer) → r.ends ≡ ends → Changes met old new → Given r met a → IsPart (answer_text a) held holds
+        → ServesBy Given Before Changes WriteFault known old new held holds
     part_sent true met a is moved given part = last WriteFault (whole closed) met a moved (closing met a is given) (part_alone (answer_text a) held holds part)
     part_sent false met a is moved given part = last WriteFault broken met a moved (breaking met a is given) (part_alone (answer_text a) held holds part)
 
-    memory_sent : (met : Met) → MovesOutside Step met old new → IsMetBefore w print now r met → Appends held holds (answer_text memory_answer)
-        → Serves Step w print now Closed known old new held holds
+    memory_sent : (met : M) → Changes met old new → Before r met → Appends held holds (answer_text memory_answer)
+        → ServesBy Given Before Changes Closed known old new held holds
     memory_sent met moved before sent = last Closed cut_off met memory_answer moved (cutting met before) (tt, alone (answer_text memory_answer) held holds sent)
 
-    memory_part : (met : Met) → MovesOutside Step met old new → IsMetBefore w print now r met → IsPart (answer_text memory_answer) held holds
-        → Serves Step w print now WriteFault known old new held holds
+    memory_part : (met : M) → Changes met old new → Before r met → IsPart (answer_text memory_answer) held holds
+        → ServesBy Given Before Changes WriteFault known old new held holds
     memory_part met moved before part = last WriteFault cut_off met memory_answer moved (cutting met before) (part_alone (answer_text memory_answer) held holds part)
 
-    pub request_served : {E : Type 0} (sent : Sent) (answer : Result Answer E) → IsAnswered Step w print now r old new answer → IsSent sent (answer_in answer) held holds
-        → IsServedNext Step w print now (end_of sent r.ends) known left old new held holds
-    request_served Whole (Ok a) (met, moved, given) sent = whole_sent r.ends met a refl moved given sent
-    request_served Whole (Err e) (met, moved, before) sent = absurd sent
-    request_served Memory (Ok a) (met, moved, given) sent = memory_sent met moved (inl (a, given.is_answer)) sent
-    request_served Memory (Err e) (met, moved, before) sent = memory_sent met moved before sent
-    request_served Failed (Ok a) (met, moved, given) (inl part) = part_sent r.ends met a refl moved given part
-    request_served Failed (Ok a) (met, moved, given) (inr part) = memory_part met moved (inl (a, given.is_answer)) part
-    request_served Failed (Err e) (met, moved, before) part = memory_part met moved before part
+    -- what happened with an answer may also happen before memory runs out
+    pub request_served : {E : Type 0} (given_before : (met : M) (a : Answer) → Given r met a → Before r met) (sent : Sent) (answer : Result Answer E) → IsAnsweredBy Given Before Changes r old new answer → IsSent sent (answer_in answer) held holds
+        → IsServedNextBy Given Before Changes (end_of sent r.ends) known left old new held holds
+    request_served given_before Whole (Ok a) (met, moved, given) sent = whole_sent r.ends met a refl moved given sent
+    request_served given_before Whole (Err e) (met, moved, before) sent = absurd sent
+    request_served given_before Memory (Ok a) (met, moved, given) sent = memory_sent met moved (given_before met a given) sent
+    request_served given_before Memory (Err e) (met, moved, before) sent = memory_sent met moved before sent
+    request_served given_before Failed (Ok a) (met, moved, given) (inl part) = part_sent r.ends met a refl moved given part
+    request_served given_before Failed (Ok a) (met, moved, given) (inr part) = memory_part met moved (given_before met a given) part
+    request_served given_before Failed (Err e) (met, moved, before) part = memory_part met moved before part
 
   -- ---- reading failed behind bytes that end within a request
 
-  pub stopped_served : (known rest : Option (List ℕ)) (old : Outside H) (held holds : Option (List ℕ)) → holds ≡ held → StopsIn known rest → ServedSoFar Step w print now known rest old old held holds
+  pub stopped_served : (known rest : Option (List ℕ)) (old : X) (held holds : Option (List ℕ)) → holds ≡ held → StopsIn known rest → ServedSoFarBy Given Before Changes known rest old old held holds
   stopped_served known rest old held holds same s = record {
     taken = s.taken;
     is_taken = s.is_taken;
@@ -178,9 +174,9 @@ module _ {H : Type 0} (Step : Command → Submitted → H → H → Type 0) (w :
 
   -- ---- no further request
 
-  module _ (known : Option (List ℕ)) (old : Outside H) (held holds : Option (List ℕ)) where
-    none : (end : LinkEnd) (stop : Stop) (bytes : List ℕ) (answers : List Answer) → AreKnown known bytes → AreAnswered w print now bytes [] stop [] answers
-        → AreWritten end stop (written answers) held holds → Serves Step w print now end known old old held holds
+  module _ (known : Option (List ℕ)) (old : X) (held holds : Option (List ℕ)) where
+    none : (end : LinkEnd) (stop : Stop) (bytes : List ℕ) (answers : List Answer) → AreKnown known bytes → AreAnsweredBy Given Before bytes [] stop [] answers
+        → AreWritten end stop (written answers) held holds → ServesBy Given Before Changes end known old old held holds
     none end stop bytes answers is answered is_written = record {
       bytes = bytes;
       requests = [];
@@ -194,7 +190,7 @@ module _ {H : Type 0} (Step : Command → Submitted → H → H → Type 0) (w :
     }
 
     -- for want of memory
-    pub memory_served : (sent : Sent) → IsSent sent None held holds → Serves Step w print now (end_behind sent) known old old held holds
+    pub memory_served : (sent : Sent) → IsSent sent None held holds → ServesBy Given Before Changes (end_behind sent) known old old held holds
     memory_served Whole sent = absurd sent
     memory_served Memory sent = none Closed cut_off (rest_of known) (memory_answer ∷ []) (rest_is_known known) (refl, refl) (tt, alone (answer_text memory_answer) held holds sent)
     memory_served Failed part = none WriteFault cut_off (rest_of known) (memory_answer ∷ []) (rest_is_known known) (refl, refl) (part_alone (answer_text memory_answer) held holds part)
@@ -206,7 +202,7 @@ module _ {H : Type 0} (Step : Command → Submitted → H → H → Type 0) (w :
         (bad.front ++ bad.begins.0, sym bad.begins.1, still_fault f bad.front bad.begins.0 bad.has_fault)
 
     pub bad_served : {E : Type 0} (f : HttpFault) (sent : Sent) (answer : Result Answer E) → IsBad f known → IfFaultAnswer f answer → IsSent sent (answer_in answer) held holds
-        → Serves Step w print now (end_behind sent) known old old held holds
+        → ServesBy Given Before Changes (end_behind sent) known old old held holds
     bad_served f Whole (Ok a) bad is sent =
         let found = faulty_bytes f known bad in
         none Closed (whole (faulty f)) found.0 (fault_answer f ∷ []) found.1 (found.2, refl, refl)
@@ -221,19 +217,54 @@ module _ {H : Type 0} (Step : Command → Submitted → H → H → Type 0) (w :
     bad_served f Failed (Err e) bad is part = memory_served Failed part
 
     -- where the bytes end
-    pub ended_served : IsEnded known → holds ≡ held → Serves Step w print now Closed known old old held holds
+    pub ended_served : IsEnded known → holds ≡ held → ServesBy Given Before Changes Closed known old old held holds
     ended_served is same = by_known known refl is
       where
         nothing : Appends held holds []
         nothing = subst (λ h. Appends held h []) (sym same) (Appends-nil held)
 
-        by_known : (k : Option (List ℕ)) → known ≡ k → IsEnded k → Serves Step w print now Closed known old old held holds
+        by_known : (k : Option (List ℕ)) → known ≡ k → IsEnded k → ServesBy Given Before Changes Closed known old old held holds
         by_known None is_known cut =
             none Closed (whole ended) [] [] (subst (λ k. AreKnown k []) (sym is_known) tt) (no_bytes_are_cut, refl, refl) (tt, nothing)
         by_known (Some bytes) is_known cut =
             none Closed (whole ended) bytes [] (subst (λ k. AreKnown k bytes) (sym is_known) refl) (cut, refl, refl) (tt, nothing)
 
     -- where the link counted a fault as it was read
-    pub unread_served : holds ≡ held → Serves Step w print now ReadFault known old old held holds
+    pub unread_served : holds ≡ held → ServesBy Given Before Changes ReadFault known old old held holds
     unread_served same =
         none ReadFault broken (rest_of known) [] (rest_is_known known) (refl, refl) (refl, subst (λ h. Appends held h []) (sym same) (Appends-nil held))
+
+-- ---- with answers that are also those of another notion
+
+module _ {M X : Type 0} (Given Given2 : Request → M → Answer → Type 0) (Before Before2 : Request → M → Type 0) (Changes : M → X → X → Type 0)
+    (given_on : (r : Request) (met : M) (a : Answer) → Given r met a → Given2 r met a) (before_on : (r : Request) (met : M) → Before r met → Before2 r met)
+  where
+    pub answered_on : (bytes : List ℕ) (requests : List Request) (stop : Stop) (mets : List M) (answers : List Answer) → AreAnsweredBy Given Before bytes requests stop mets answers
+        → AreAnsweredBy Given2 Before2 bytes requests stop mets answers
+    answered_on bytes [] stop mets answers h = h
+    answered_on bytes (r ∷ requests) stop [] answers h = absurd h
+    answered_on bytes (r ∷ requests) stop (m ∷ mets) [] h = absurd h
+    answered_on bytes (r ∷ requests) stop (m ∷ mets) (a ∷ answers) (after, begins, inl (given, inl closing)) = (after, begins, inl (given_on r m a given, inl closing))
+    answered_on bytes (r ∷ requests) stop (m ∷ mets) (a ∷ answers) (after, begins, inl (given, inr (goes, rest))) =
+        (after, begins, inl (given_on r m a given, inr (goes, answered_on after requests stop mets answers rest)))
+    answered_on bytes (r ∷ requests) stop (m ∷ mets) (a ∷ answers) (after, begins, inr (cut, no_requests, stop_is, no_mets, no_answers)) =
+        (after, begins, inr (record { met_before = before_on r m cut.met_before; no_memory = cut.no_memory }, no_requests, stop_is, no_mets, no_answers))
+
+    abbrev pub served_on : (end : LinkEnd) (known : Option (List ℕ)) (old new : X) (held holds : Option (List ℕ)) → ServesBy Given Before Changes end known old new held holds
+        → ServesBy Given2 Before2 Changes end known old new held holds
+    served_on end known old new held holds s = record {
+      bytes = s.bytes;
+      requests = s.requests;
+      stop = s.stop;
+      mets = s.mets;
+      answers = s.answers;
+      are_known = s.are_known;
+      answered = answered_on s.bytes s.requests s.stop s.mets s.answers s.answered;
+      moved = s.moved;
+      written_are = s.written_are;
+    }
+
+    pub so_far_on : (known rest : Option (List ℕ)) (old new : X) (held holds : Option (List ℕ)) → ServedSoFarBy Given Before Changes known rest old new held holds
+        → ServedSoFarBy Given2 Before2 Changes known rest old new held holds
+    so_far_on known rest old new held holds s =
+        record { taken = s.taken; is_taken = s.is_taken; serves = served_on Closed (Some s.taken) old new held holds s.serves; ended = s.ended }

@@ -1,5 +1,5 @@
 -- Answers by two prints that print the pages of a world's rows alike.
-use Rattle.std.proofs.Common.{◌≡◌, ◌∙◌, inl, inr, ℕ, ℤ, List, [], ◌∷◌, refl, ap, subst, Bool, true, false, Option, Some, None, Result, Ok, Err}
+use Rattle.std.proofs.Common.{◌≡◌, ◌∙◌, inl, inr, ℕ, ℤ, List, refl, ap, subst, Bool, true, false, Option, Some, None, Result, Ok, Err}
 use Rattle.routes_spec.specs.fleet_rows.declared.command.Command.{Command}
 use Rattle.routes_spec.specs.fleet_tables.Stands.{Stands}
 use Rattle.routes_spec.specs.history_spec.Trace.{Trace}
@@ -23,13 +23,17 @@ use Rattle.routes_spec.specs.table_machine.Table.{Table}
 use Rattle.routes_spec.specs.declared.route.Route.{Route}
 use Rattle.routes_spec.specs.declared.route.Route.TheVariants.{Commands, Queries, RowsOf}
 use Rattle.routes_spec.specs.Answers.{Met, done, total_of, paged_answer, IsSummedAnswer, IsRowsAnswer, IsToldAnswer, IsQuestionAnswer, IsRouteAnswer, IsMethodAnswer, IsPathAnswer, IsAnswer}
-use Rattle.routes_spec.specs.Links.{Stop, IsGiven, IsMetBefore, AreAnswered}
+use Rattle.routes_spec.specs.Links.{IsGiven, IsMetBefore}
 use Rattle.routes_spec.specs.Queries.{Question}
+use Rattle.routes_spec.specs.Reading.{IsReadFor}
 use Rattle.routes_spec.specs.Routes.{route_at, path_of, takes_method}
 use Rattle.fleet_rows.specs.declared.submitted.Submitted.{Submitted}
 use Rattle.http_routes.specs.declared.link.LinkEnd.{LinkEnd}
-use Rattle.http_routes.specs.declared.link.LinkEnd.TheVariants.{Closed}
-use Rattle.http_routes.specs.Course.{Outside, Serves, ServedSoFar}
+use Rattle.http_routes.specs.Asked.{AnswersAsked}
+use Rattle.http_routes.specs.Course.{Outside, MovesOutside, Serves, ServedSoFar}
+use Rattle.http_routes.specs.Routed.{only_asked, IsAskedAnswer}
+use Rattle.http_routes.proofs.Asking.{answers_on}
+use Rattle.http_routes.proofs.LinkSteps.{served_on, so_far_on}
 
 module _ (w : World) (print other : OutRows → List ℕ) (alike : (q : Level) (p : Paging) → print (page p (means w q)) ≡ other (page p (means w q))) where
   module _ (ends : Bool) where
@@ -79,49 +83,41 @@ module _ (w : World) (print other : OutRows → List ℕ) (alike : (q : Level) (
     before_alike r met (inl (a, h)) = inl (a, answer_alike r met a h)
     before_alike r met (inr h) = inr h
 
-    pub link_alike : (bytes : List ℕ) (requests : List Request) (stop : Stop) (mets : List Met) (answers : List Answer) → AreAnswered w print now bytes requests stop mets answers
-        → AreAnswered w other now bytes requests stop mets answers
-    link_alike bytes [] stop mets answers h = h
-    link_alike bytes (r ∷ requests) stop [] answers h = absurd h
-    link_alike bytes (r ∷ requests) stop (m ∷ mets) [] h = absurd h
-    link_alike bytes (r ∷ requests) stop (m ∷ mets) (a ∷ answers) (after, begins, inl (given, inl closing)) = (after, begins, inl (given_alike r m a given, inl closing))
-    link_alike bytes (r ∷ requests) stop (m ∷ mets) (a ∷ answers) (after, begins, inl (given, inr (goes, rest))) =
-        (after, begins, inl (given_alike r m a given, inr (goes, link_alike after requests stop mets answers rest)))
-    link_alike bytes (r ∷ requests) stop (m ∷ mets) (a ∷ answers) (after, begins, inr (cut, no_requests, stop_is, no_mets, no_answers)) =
-        (after, begins, inr (record { met_before = before_alike r m cut.met_before; no_memory = cut.no_memory }, no_requests, stop_is, no_mets, no_answers))
-
-    abbrev pub served_alike : {H : Type 0} (Step : Command → Submitted → H → H → Type 0) (end : LinkEnd) (known : Option (List ℕ)) (old new : Outside H) (held holds : Option (List ℕ)) → Serves Step w print now end known old new held holds
-        → Serves Step w other now end known old new held holds
-    served_alike Step end known old new held holds s = record {
-      bytes = s.bytes;
-      requests = s.requests;
-      stop = s.stop;
-      mets = s.mets;
-      answers = s.answers;
-      are_known = s.are_known;
-      answered = link_alike s.bytes s.requests s.stop s.mets s.answers s.answered;
-      moved = s.moved;
-      written_are = s.written_are;
-    }
-
-    pub so_far_alike : {H : Type 0} (Step : Command → Submitted → H → H → Type 0) (known rest : Option (List ℕ)) (old new : Outside H) (held holds : Option (List ℕ)) → ServedSoFar Step w print now known rest old new held holds
-        → ServedSoFar Step w other now known rest old new held holds
-    so_far_alike Step known rest old new held holds s =
-        record { taken = s.taken; is_taken = s.is_taken; serves = served_alike Step Closed (Some s.taken) old new held holds s.serves; ended = s.ended }
+  asked_alike : (r : Request) (asked : List Asked) (a : Answer) → IsAskedAnswer w print r asked a → IsAskedAnswer w other r asked a
+  asked_alike r asked a h = λ now. answer_alike now r (only_asked asked) a (h now)
 
 -- over the tables of a history
+module _ (table : Table) (history : Trace) (says : List ℕ → List ℕ → Bool) (stands : Stands table history) where
+  -- the pages of the history's rows are printed alike
+  same_print : (q : Level) (p : Paging) → written_text (page p (means (spec.world_of table.ttls history says) q)) ≡ lines_text (page p (means (spec.world_of table.ttls history says) q))
+  same_print q p =
+      let w = spec.world_of table.ttls history says in
+      rows_text_is (page p (means w q)) (pages_can_be_printed p (means w q) (rows_can_be_printed table.ttls history says stands.0 q))
+
+  pub history_asked : {E : Type 0} (r : Request) (before after : Option (List Asked)) (count later : ℕ) (result : Result Answer E)
+      → AnswersAsked before after count later (IsReadFor r) (IsAskedAnswer (world_of table says) written_text r) result
+      → AnswersAsked before after count later (IsReadFor r) (IsAskedAnswer (spec.world_of table.ttls history says) lines_text r) result
+  history_asked r before after count later result h =
+      let w = spec.world_of table.ttls history says in
+      answers_on before after count later (IsReadFor r) (IsReadFor r) (IsAskedAnswer w written_text r) (IsAskedAnswer w lines_text r) result (λ asked read. read)
+      (asked_alike w written_text lines_text same_print r)
+      (subst (λ v. AnswersAsked before after count later (IsReadFor r) (IsAskedAnswer v written_text r) result) (world_is table history says stands) h)
+
+-- and what was served over them
 pub history_served : {H : Type 0} (Step : Command → Submitted → H → H → Type 0) (table : Table) (history : Trace) (says : List ℕ → List ℕ → Bool) (now : ℤ) (end : LinkEnd) (known : Option (List ℕ)) (old new : Outside H) (held holds : Option (List ℕ))
     → Stands table history → Serves Step (world_of table says) written_text now end known old new held holds → Serves Step (spec.world_of table.ttls history says) lines_text now end known old new held holds
 history_served Step table history says now end known old new held holds s h =
     let w = spec.world_of table.ttls history says in
-    served_alike w written_text lines_text
-    (λ q p. rows_text_is (page p (means w q)) (pages_can_be_printed p (means w q) (rows_can_be_printed table.ttls history says s.0 q))) now Step end known old new held holds
+    let same = same_print table history says s in
+    served_on (IsGiven w written_text now) (IsGiven w lines_text now) (IsMetBefore w written_text now) (IsMetBefore w lines_text now) (MovesOutside Step)
+    (given_alike w written_text lines_text same now) (before_alike w written_text lines_text same now) end known old new held holds
     (subst (λ v. Serves Step v written_text now end known old new held holds) (world_is table history says s) h)
 
 pub history_so_far : {H : Type 0} (Step : Command → Submitted → H → H → Type 0) (table : Table) (history : Trace) (says : List ℕ → List ℕ → Bool) (now : ℤ) (known rest : Option (List ℕ)) (old new : Outside H) (held holds : Option (List ℕ))
     → Stands table history → ServedSoFar Step (world_of table says) written_text now known rest old new held holds → ServedSoFar Step (spec.world_of table.ttls history says) lines_text now known rest old new held holds
 history_so_far Step table history says now known rest old new held holds s h =
     let w = spec.world_of table.ttls history says in
-    so_far_alike w written_text lines_text
-    (λ q p. rows_text_is (page p (means w q)) (pages_can_be_printed p (means w q) (rows_can_be_printed table.ttls history says s.0 q))) now Step known rest old new held holds
+    let same = same_print table history says s in
+    so_far_on (IsGiven w written_text now) (IsGiven w lines_text now) (IsMetBefore w written_text now) (IsMetBefore w lines_text now) (MovesOutside Step)
+    (given_alike w written_text lines_text same now) (before_alike w written_text lines_text same now) known rest old new held holds
     (subst (λ v. ServedSoFar Step v written_text now known rest old new held holds) (world_is table history says s) h)

@@ -1,7 +1,9 @@
 -- The answers to questions on the query routes, built step by step.
 use Rattle.std.specs.Prelude.{◌≡◌, ◌⊎◌, ℕ, ◌++◌, List, length, codes, false, Bool, if◌then◌else◌, Option, Some, None, Result, Ok, Err, IfOk}
 use Rattle.http_spec.specs.declared.answer.Answer.{Answer}
+use Rattle.http_spec.specs.declared.request.Request.{Request}
 use Rattle.routes_spec.specs.means_spec.OutRows.{OutRows, names_of, page}
+use Rattle.routes_spec.specs.means_spec.World.{World}
 use Rattle.paging_params.specs.Params.{ParamValue}
 use Rattle.paging_params.specs.Paging.{IsPagingOf}
 use Rattle.paging_params.specs.declared.read.PagingFault.{PagingFault}
@@ -15,7 +17,11 @@ use Rattle.routes_spec.specs.pattern_port.Refused.{Asked}
 use Rattle.routes_spec.specs.query_answer.RefusalText.{refusal_text}
 use Rattle.routes_spec.specs.query_spec.declared.parts.Paging.{Paging}
 use Rattle.routes_spec.specs.query_spec.Query.{Level}
-use Rattle.routes_spec.specs.Answers.{done, error}
+use Rattle.routes_spec.specs.Answers.{done, error, IsQuestionAnswer}
+use Rattle.routes_spec.specs.Parameters.{parameters_of}
+use Rattle.routes_spec.specs.Queries.{Question, IsQuestion}
+use Rattle.routes_spec.specs.Routes.{query_of}
+use Rattle.routes_spec.specs.declared.route.Route.{Route}
 use Rattle.http_routes.specs.Moves.{Reads}
 
 abbrev pub total_of : Paging → OutRows → Option ℕ
@@ -56,3 +62,8 @@ AnswersAsked before now count later Before P (Ok answer) = (asked : List Asked) 
 AnswersAsked before now count later Before P (Err e) =
     (asked : List Asked) × Reads asked before now count later
     × (((other : Answer) × P asked other) ⊎ Before asked)
+
+-- the answer to a request's question on this route, after these patterns were read
+abbrev pub IsAskAnswer : World → (OutRows → List ℕ) → Route → Request → List Asked → Answer → Type 0
+IsAskAnswer w print route r asked answer =
+    (question : Option Question) × IsQuestion r.method (parameters_of (query_of r.target)) r.body question × IsQuestionAnswer w print r.ends route question asked answer

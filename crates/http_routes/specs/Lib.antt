@@ -5,6 +5,7 @@ pub mod Told
 pub mod Moves
 pub mod Asked
 pub mod Uuids
+pub mod Routed
 pub mod Course
 -- Re-exports for the crates above.
 pub use Rattle.routes_spec.specs.fleet_ports as fleet_ports

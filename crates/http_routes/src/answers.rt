@@ -1,12 +1,12 @@
 //! Makes the answers with an error or a UUID.
-ghost use Rattle.std.specs.Prelude.{◌≡◌, ◌++◌, IfOk, None, codes};
+ghost use Rattle.std.specs.Prelude.{◌≡◌, ◌≢◌, ◌++◌, IfOk, None, codes};
 ghost use Rattle.routes_spec.specs.query_answer.RefusalText.{refusal_text};
-ghost use Rattle.routes_spec.specs.Answers.{done, error, uuid_body};
+ghost use Rattle.routes_spec.specs.Answers.{done, error, submitted_answer, uuid_body};
 ghost use Rattle.http_routes.specs.Uuids.{uuid_bytes};
 
 use http_spec::Answer;
 use json_tree::Bytes;
-use routes_spec::QueryRefusal;
+use routes_spec::{QueryRefusal, Submitted};
 use std::alloc::{AllocError, Global};
 use uuid::Uuid;
 
@@ -68,9 +68,9 @@ fn uuid_of(receipt: u64) -> Uuid
     ])
 }
 
-/// The answer to a command that was taken under this receipt.
+// The answer to a command that was taken under this receipt.
 #[tactic(auto, using(crate::proofs::UuidTexts::uuid_body_is))]
-pub(crate) fn taken(alloc: Global, ends: bool, receipt: u64) -> Result<Answer, AllocError>
+fn taken(alloc: Global, ends: bool, receipt: u64) -> Result<Answer, AllocError>
     ensures { IfOk result (λ answer. answer ≡ done ends None (uuid_body receipt)) }
 {
     let mut buffer = Uuid::encode_buffer();
@@ -83,4 +83,23 @@ pub(crate) fn taken(alloc: Global, ends: bool, receipt: u64) -> Result<Answer, A
         close: ends,
         body: joined(alloc, b"{\"uuid\":\"", text.as_bytes(), b"\"}")?,
     })
+}
+
+/// The answer to a posted command, from what `submit` answered. `ends` is that of the request.
+pub fn answer_submitted(
+    alloc: Global,
+    ends: bool,
+    submitted: Submitted,
+) -> Result<Answer, AllocError>
+    ensures told { IfOk result (λ told. told ≡ submitted_answer ends submitted) }
+    ensures code { IfOk result (λ told. told.code ≢ 500) }
+{
+    match submitted {
+        Submitted::Receipt(receipt) => taken(alloc, ends, receipt),
+        Submitted::Full => error(alloc, ends, 503, b"queue full"),
+        Submitted::QueueFault => error(alloc, ends, 503, b"queue fault"),
+        Submitted::Spent => error(alloc, ends, 503, b"queue spent"),
+        Submitted::Down => error(alloc, ends, 503, b"queue down"),
+        Submitted::Memory => Err(AllocError),
+    }
 }

@@ -1,16 +1,21 @@
 //! Answers the questions on the query routes.
 ghost use Rattle.std.specs.Prelude.{◌≡◌, ◌≢◌, ℕ, List, IfOk, Some};
+ghost use Rattle.routes_spec.specs.fleet_tables.Stands.{Stands};
+ghost use Rattle.routes_spec.specs.history_spec.Trace.{Trace};
+ghost use Rattle.routes_spec.specs.means_spec.OutRows.{lines_text};
+ghost use Rattle.routes_spec.specs.means_spec.World as spec;
 ghost use Rattle.paging_params.specs.Params.{last_under};
 ghost use Rattle.paging_text.specs.Shown.{rows_of, written_text};
 ghost use Rattle.query_engine.specs.Tables.{world_of};
 ghost use Rattle.routes_spec.specs.Answers.{IsRowsAnswer, IsQuestionAnswer};
 ghost use Rattle.routes_spec.specs.Queries as meant;
-ghost use Rattle.routes_spec.specs.Reading.{ReadsFront, IsReadOf, IsReadOn};
-ghost use Rattle.http_routes.specs.Asked.{shown_answer, IsPagedAnswer, IsUnpagedAnswer, IsPickedAnswer, IsUnpickedAnswer, AnswersAsked};
-ghost use Rattle.http_routes.specs.Moves.{Answers, IsAskAnswer, IsAskMet};
+ghost use Rattle.routes_spec.specs.Reading.{ReadsFront, IsReadOf, IsReadOn, IsReadFor};
+ghost use Rattle.http_routes.specs.Asked.{shown_answer, IsPagedAnswer, IsUnpagedAnswer, IsPickedAnswer, IsUnpickedAnswer, IsAskAnswer, AnswersAsked};
 ghost use Rattle.http_routes.specs.Questions.{Asks};
+ghost use Rattle.http_routes.specs.Routed.{IsQueryRequest, IsAskedAnswer};
 
 use crate::answers::{bad_paging, error, refused};
+use crate::paths::route_of;
 use crate::question::{Question, question_in};
 use crate::told::{Told, told_on};
 use ast_tree::Query;
@@ -140,8 +145,8 @@ fn question_answer<P: Patterns>(
     }
 }
 
-/// Answers a request on a query route.
-pub(crate) fn ask<P: Patterns>(
+// Answers a request on a query route.
+fn ask<P: Patterns>(
     alloc: Global,
     tables: &Tables,
     patterns: &mut P,
@@ -149,7 +154,7 @@ pub(crate) fn ask<P: Patterns>(
     request: &Request,
 ) -> Result<Answer, AllocError>
     ensures same { (p t : List ℕ) → P.says patterns.new p t ≡ P.says patterns.old p t }
-    ensures answer { Answers (IsAskMet (P.asked patterns.old) (P.asked patterns.new) (P.refusals patterns.old) (P.refusals patterns.new))
+    ensures answer { AnswersAsked (P.asked patterns.old) (P.asked patterns.new) (P.refusals patterns.old) (P.refusals patterns.new)
         (IsReadOn route request.now) (IsAskAnswer (world_of tables.now (P.says patterns.old)) written_text route request.now) result }
     ensures code { IfOk result (λ answer. answer.code ≢ 500) }
 {
@@ -158,5 +163,33 @@ pub(crate) fn ask<P: Patterns>(
     match asked {
         Some(question) => question_answer(alloc, tables, patterns, ends, route, question),
         None => error(alloc, ends, 400, b"bad body"),
+    }
+}
+
+/// Answers a query over these tables. `route` has said that the request asks one.
+pub fn answer_query<P: Patterns>(
+    alloc: Global,
+    request: &Request,
+    tables: &Tables,
+    patterns: &mut P,
+) -> Result<Answer, AllocError>
+    requires asked { IsQueryRequest request.now }
+
+    // What patterns match stays.
+    ensures same { (p t : List ℕ) → P.says patterns.new p t ≡ P.says patterns.old p t }
+
+    // The answer is that of the definition, over the tables as they are and over each history that they stand for. Exactly the
+    // query's patterns up to a refused one were read, and the count of refusals rose if one was refused.
+    ensures answer { AnswersAsked (P.asked patterns.old) (P.asked patterns.new) (P.refusals patterns.old) (P.refusals patterns.new)
+        (IsReadFor request.now) (IsAskedAnswer (world_of tables.now (P.says patterns.old)) written_text request.now) result }
+    ensures stands { (history : Trace) → Stands tables.now history
+        → AnswersAsked (P.asked patterns.old) (P.asked patterns.new) (P.refusals patterns.old) (P.refusals patterns.new)
+        (IsReadFor request.now) (IsAskedAnswer (spec.world_of tables.now.ttls history (P.says patterns.old)) lines_text request.now) result }
+    ensures code { IfOk result (λ answer. answer.code ≢ 500) }
+{
+    match route_of(request) {
+        Some(found) => ask(alloc, tables, patterns, found, request),
+        // This line is unreachable: a query's path has a route.
+        None => error(alloc, request.ends, 404, b"no such path"),
     }
 }

@@ -5,7 +5,11 @@
 //! promises exactly these answers in order. URLs are decoded by `form_urlencoded` (the URL Standard, section 5), and UUIDs are
 //! made by `uuid` (RFC 9562).
 //!
-//! What the contract promises:
+//! A server with other tables for each query answers a request in parts: [`route`] tells what it asks for ([`Routed`]),
+//! [`answer_query`] answers a query, and [`answer_submitted`] a posted command. [`serve_link`] is these in a loop. `specs/Course`
+//! has the course of a connection over any notion of an answer.
+//!
+//! What the contract of [`serve_link`] promises:
 //! - At Closed all answers were written, at WriteFault a prefix of them (`served`, `stands`). A submitted command was received
 //!   at `now`. After the answer for missing memory no request is answered.
 //! - Every request is answered before more is read: no read is made while a request stands there whole (`so_far`).
@@ -22,12 +26,15 @@ mod command;
 mod inbox;
 mod link;
 mod parameters;
-mod post;
+mod paths;
 mod question;
-mod route;
+mod routed;
 mod send;
 mod told;
 
+pub use answers::answer_submitted;
+pub use ask::answer_query;
 pub use inbox::Inbox;
 pub use link::{LinkEnd, serve_link};
+pub use routed::{Routed, route};
 pub use routes_spec::Submitted;

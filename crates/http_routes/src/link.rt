@@ -1,5 +1,5 @@
 //! Serves a connection.
-ghost use Rattle.std.specs.Prelude.{◌≡◌, ◌≢◌, ◌≤◌, ℕ, List, length, false, IfOk, Some, None};
+ghost use Rattle.std.specs.Prelude.{◌≡◌, ◌≤◌, ℕ, List, length, false, Some, None};
 ghost use Rattle.routes_spec.specs.fleet_ports.Counts.{Counts};
 ghost use Rattle.routes_spec.specs.fleet_tables.Stands.{Stands};
 ghost use Rattle.routes_spec.specs.history_spec.Lawful.{HasStamp};
@@ -10,26 +10,20 @@ ghost use Rattle.routes_spec.specs.means_spec.OutRows.{lines_text};
 ghost use Rattle.routes_spec.specs.means_spec.World as spec;
 ghost use Rattle.paging_text.specs.Shown.{written_text};
 ghost use Rattle.query_engine.specs.Tables.{world_of};
-ghost use Rattle.routes_spec.specs.Answers.{IsRouteAnswer};
-ghost use Rattle.routes_spec.specs.Reading.{IsReadOn};
-ghost use Rattle.routes_spec.specs.Routes.{path_of, route_at, takes_method};
 ghost use Rattle.http_routes.specs.Inbox.{Takes};
-ghost use Rattle.http_routes.specs.Moves.{Moves, Answers};
 ghost use Rattle.http_routes.specs.Course.{outside, end_behind, end_of, IsAnswered, IsServedNext, Serves, ServedSoFar};
 ghost use Rattle.json_tree.specs.Limits.{most_payload};
 
-use crate::answers::error;
-use crate::ask::ask;
+use crate::answers::{answer_submitted, error};
+use crate::ask::answer_query;
 use crate::inbox::Inbox;
-use crate::post::post;
-use crate::route::{path_of, route_at, takes_method};
+use crate::routed::{Routed, route};
 use crate::send::{Sent, fault_code, fault_text, send, send_memory};
 use fleet_ports::{Sink, Source};
 use front_port::Link;
 use http_front::{Incoming, NextRequest, next_request};
 use http_spec::{Answer, Request};
 use pattern_port::Patterns;
-use routes_spec::Route;
 use stamp_time::Moment;
 use std::alloc::{AllocError, Global};
 
@@ -42,45 +36,6 @@ pub enum LinkEnd {
     ReadFault,
     /// Writing to the connection failed.
     WriteFault,
-}
-
-// Answers a request on a route that allows its method.
-fn routed<I: Inbox + Drop, P: Patterns + Drop>(
-    alloc: Global,
-    inbox: &mut I,
-    patterns: &mut P,
-    now: Moment,
-    route: Route,
-    request: Request,
-) -> Result<Answer, AllocError>
-    requires now { HasStamp now }
-    requires body { length request.body ≤ most_payload }
-    ensures shown { I.shown inbox.new ≡ I.shown inbox.old }
-    ensures same { (p t : List ℕ) → P.says patterns.new p t ≡ P.says patterns.old p t }
-    ensures answer { Answers (λ met. Moves (Takes I.held I.does) met inbox.old inbox.new (P.asked patterns.old) (P.asked patterns.new)
-        (P.refusals patterns.old) (P.refusals patterns.new)) (IsReadOn route request)
-        (IsRouteAnswer (world_of (I.shown inbox.old) (P.says patterns.old)) written_text now route request) result }
-    ensures code { IfOk result (λ answer. answer.code ≢ 500) }
-{
-    match route {
-        Route::Commands => post(alloc, inbox, now, request),
-        _ => ask(alloc, inbox.tables(), patterns, route, &request),
-    }
-}
-
-// The route of a request.
-fn route_of(request: &Request) -> Option<Route>
-    ensures { result ≡ route_at (path_of request.now.target) }
-{
-    let path = path_of(request.target.as_slice());
-    route_at(path)
-}
-
-// Whether the route allows the request's method.
-fn takes(route: Route, request: &Request) -> bool
-    ensures { result ≡ takes_method route request.now.method }
-{
-    takes_method(route, request.method.as_slice())
 }
 
 // Answers a request, unless memory runs out.
@@ -99,15 +54,12 @@ fn answered<I: Inbox + Drop, P: Patterns + Drop>(
         (outside inbox.old (P.asked patterns.old) (P.refusals patterns.old))
         (outside inbox.new (P.asked patterns.new) (P.refusals patterns.new)) result }
 {
-    match route_of(&request) {
-        Some(route) => {
-            if takes(route, &request) {
-                routed(alloc, inbox, patterns, now, route, request)
-            } else {
-                error(alloc, request.ends, 405, b"bad method")
-            }
-        }
-        None => error(alloc, request.ends, 404, b"no such path"),
+    let ends = request.ends;
+    let routed = route(alloc, request, now)?;
+    match routed {
+        Routed::Command(command) => answer_submitted(alloc, ends, inbox.submit(command)),
+        Routed::Query(request) => answer_query(alloc, &request, inbox.tables(), patterns),
+        Routed::Done(answer) => Ok(answer),
     }
 }
 

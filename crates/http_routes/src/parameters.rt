@@ -4,7 +4,7 @@ ghost use Rattle.paging_params.specs.Params.{last_under};
 ghost use Rattle.routes_spec.specs.Parameters.{decoded, parameters_of};
 ghost use Rattle.routes_spec.specs.Routes.{query_of};
 
-use crate::route::query_of;
+use crate::paths::query_of;
 use form_urlencoded::{decode, raw_pairs};
 use http_spec::Request;
 use json_tree::Text;

@@ -10,7 +10,7 @@ ghost use Rattle.routes_spec.specs.Routes.{query_of};
 ghost use Rattle.http_routes.specs.Questions.{SamePaging, Asks, IsAskedSo, IsAskedByValue, IsNoneBy, IfAsked, url_pair, with_member};
 
 use crate::parameters::{last_under, parameters_in};
-use crate::route::is_post;
+use crate::paths::is_post;
 use http_spec::Request;
 use json_read::{ReadFault, read};
 use json_tree::{Bytes, Json, Members, Text, write_compact};

@@ -6,7 +6,7 @@ use Rattle.http_spec.specs.Requests.{End, closed, faulty, ended, AreRequests, Re
 use Rattle.query_answer.specs.means_spec.OutRows.{OutRows}
 use Rattle.query_answer.specs.means_spec.World.{World}
 use Rattle.routes_spec.specs.Answers.{Met}
-use Rattle.routes_spec.specs.Links.{whole, cut_off, AreAnswered, IsServed}
+use Rattle.routes_spec.specs.Links.{whole, cut_off, IsGiven, IsMetBefore, AreAnsweredBy, IsServed}
 use Rattle.http_spec.specs.Limits.{most_link}
 
 same_end : (d e : End) → whole d ≡ whole e → d ≡ e
@@ -18,9 +18,9 @@ not_cut e h = absurd (never h)
     never : whole e ≡ cut_off → ⊥
     never h = cc
 
-module _ (w : World) (print : OutRows → List ℕ) (now : ℤ) where
-  all_read : (bytes : List ℕ) (requests : List Request) (end : End) (mets : List Met) (answers : List Answer)
-      → AreAnswered w print now bytes requests (whole end) mets answers → AreRequests bytes requests end
+module _ {M : Type 0} (Given : Request → M → Answer → Type 0) (Before : Request → M → Type 0) where
+  pub all_read : (bytes : List ℕ) (requests : List Request) (end : End) (mets : List M) (answers : List Answer)
+      → AreAnsweredBy Given Before bytes requests (whole end) mets answers → AreRequests bytes requests end
   all_read bytes [] closed mets answers h = h
   all_read bytes [] (faulty f) mets answers h = h.0
   all_read bytes [] ended mets answers h = h.0
@@ -32,6 +32,6 @@ module _ (w : World) (print : OutRows → List ℕ) (now : ℤ) where
       (after, begins, inr (goes, all_read after requests end mets answers rest))
   all_read bytes (r ∷ requests) end (m ∷ mets) (a ∷ answers) (after, begins, inr (cut, none, stop, no_mets, no_answers)) = not_cut end stop
 
-  pub link_read : (bytes : List ℕ) (requests : List Request) (end : End) (mets : List Met) (answers : List Answer)
-      → IsServed w print now bytes requests (whole end) mets answers → RequestsOf bytes requests end
-  link_read bytes requests end mets answers h = all_read (take most_link bytes) requests end mets answers h
+pub link_read : (w : World) (print : OutRows → List ℕ) (now : ℤ) (bytes : List ℕ) (requests : List Request) (end : End) (mets : List Met) (answers : List Answer)
+    → IsServed w print now bytes requests (whole end) mets answers → RequestsOf bytes requests end
+link_read w print now bytes requests end mets answers h = all_read (IsGiven w print now) (IsMetBefore w print now) (take most_link bytes) requests end mets answers h

@@ -20,8 +20,10 @@ pub data Stop : Type 0 where
   cut_off : Stop
   broken : Stop
 
+-- ---- over any notion of an answer. M is what may happen with a request
+
 -- what follows the last request
-abbrev pub IsLast : List ℕ → Stop → List Met → List Answer → Type 0
+abbrev pub IsLast : {M : Type 0} → List ℕ → Stop → List M → List Answer → Type 0
 IsLast bytes (whole closed) mets answers = ⊥
 IsLast bytes (whole (faulty f)) mets answers = HasFault f bytes × (mets ≡ []) × (answers ≡ fault_answer f ∷ [])
 IsLast bytes (whole ended) mets answers = IsCut bytes × (mets ≡ []) × (answers ≡ [])
@@ -29,16 +31,35 @@ IsLast bytes cut_off mets answers = (mets ≡ []) × (answers ≡ memory_answer 
 IsLast bytes broken mets answers = (mets ≡ []) × (answers ≡ [])
 
 -- the answer to a request that ends the connection is the last one
-pub record IsClosing (r : Request) (requests : List Request) (stop : Stop) (mets : List Met) (answers : List Answer) : Type 0 where
+pub record IsClosing {M : Type 0} (r : Request) (requests : List Request) (stop : Stop) (mets : List M) (answers : List Answer) : Type 0 where
   pub ends : r.ends ≡ true
   pub requests_are : requests ≡ []
   pub stop_is : stop ≡ whole closed
   pub mets_are : mets ≡ []
   pub answers_are : answers ≡ []
 
+-- there was no memory to answer the request. `Before` says what may have happened until then
+pub record IsCutOff {M : Type 0} (Before : Request → M → Type 0) (r : Request) (met : M) (answer : Answer) : Type 0 where
+  pub met_before : Before r met
+  pub no_memory : answer ≡ memory_answer
+
+module _ {M : Type 0} (Given : Request → M → Answer → Type 0) (Before : Request → M → Type 0) where
+  -- The bytes are these requests up to where answering stops. Each was given its answer, with what happened. The last part says
+  -- how answering stopped. Memory may run out before a request is read or while it is answered; then no further request is
+  -- answered. If the connection fails, only a prefix of its requests is answered.
+  abbrev pub AreAnsweredBy : List ℕ → List Request → Stop → List M → List Answer → Type 0
+  AreAnsweredBy bytes [] stop mets answers = IsLast bytes stop mets answers
+  AreAnsweredBy bytes (r ∷ requests) stop (met ∷ mets) (answer ∷ answers) =
+      (after : List ℕ) × BeginsWithRequest r bytes after
+      × ((Given r met answer × (IsClosing r requests stop mets answers ⊎ ((r.ends ≡ false) × AreAnsweredBy after requests stop mets answers)))
+      ⊎ (IsCutOff Before r met answer × (requests ≡ []) × (stop ≡ cut_off) × (mets ≡ []) × (answers ≡ [])))
+  AreAnsweredBy bytes (r ∷ requests) stop mets answers = ⊥
+
 -- the bytes of the answers, in order
 abbrev pub written : List Answer → List ℕ
 written answers = flat_map answer_text answers
+
+-- ---- with the answers of this service
 
 module _ (w : World) (print : OutRows → List ℕ) (now : ℤ) where
   -- an answer other than the one that memory ran out
@@ -53,21 +74,9 @@ module _ (w : World) (print : OutRows → List ℕ) (now : ℤ) where
       ((other : Answer) × IsAnswer w print now r met other)
       ⊎ ((met.submitted ≡ None) × IsReadFor r met.asked)
 
-  -- after it there was no memory to answer the request
-  pub record IsCutOff (r : Request) (met : Met) (answer : Answer) : Type 0 where
-    pub met_before : IsMetBefore r met
-    pub no_memory : answer ≡ memory_answer
-
-  -- The bytes are these requests up to where answering stops. Each was answered this way, with what happened. The last part says
-  -- how answering stopped. Memory may run out before a request is read or while it is answered; then no further request is
-  -- answered. If the connection fails, only a prefix of its requests is answered.
+  -- the requests of these bytes and their answers
   abbrev pub AreAnswered : List ℕ → List Request → Stop → List Met → List Answer → Type 0
-  AreAnswered bytes [] stop mets answers = IsLast bytes stop mets answers
-  AreAnswered bytes (r ∷ requests) stop (met ∷ mets) (answer ∷ answers) =
-      (after : List ℕ) × BeginsWithRequest r bytes after
-      × ((IsGiven r met answer × (IsClosing r requests stop mets answers ⊎ ((r.ends ≡ false) × AreAnswered after requests stop mets answers)))
-      ⊎ (IsCutOff r met answer × (requests ≡ []) × (stop ≡ cut_off) × (mets ≡ []) × (answers ≡ [])))
-  AreAnswered bytes (r ∷ requests) stop mets answers = ⊥
+  AreAnswered = AreAnsweredBy IsGiven IsMetBefore
 
   -- the answers on a connection with these bytes; bytes past 2^62 don't belong to it
   abbrev pub IsServed : List ℕ → List Request → Stop → List Met → List Answer → Type 0

@@ -12,7 +12,8 @@
 //! | `HandedIn` | the requests that submit a command, for the laws |
 //! | `Queries` | the question on a query route |
 //! | `Answers` | the answer to a request, and the UUID of a receipt |
-//! | `Links` | the answers on a connection, in order |
+//! | `Reading` | which patterns may have been read when memory runs out |
+//! | `Links` | the answers on a connection, in order: over any notion of an answer, and over this one |
 //!
 //! The definition is given what a request alone can't tell: the answer of `submit` to its command ([`Submitted`]), and which of
 //! its patterns was refused. The laws below are contracts of functions with an empty body:

@@ -1,29 +1,51 @@
-use Rattle.std.proofs.Common.{◌∙◌, sym}
+use Rattle.std.proofs.Common.{subst, rules}
 use Rattle.paging_text.specs.Shown.{written_text}
 use Rattle.query_engine.specs.Tables.{world_of}
+use Rattle.routes_spec.specs.Reading.{IsReadFor}
+use Rattle.http_routes.specs.Asked.{AnswersAsked}
 use Rattle.http_routes.specs.Inbox.{Takes}
-use Rattle.http_routes.proofs.Answering.{routed_answered, no_path, bad_method}
+use Rattle.http_routes.specs.Routed.{IsAskedAnswer}
+use Rattle.http_routes.proofs.Answering.{not_routed, command_answered, asked_answered, alone_answered, is_query, may_be_submitted}
 use Rattle.http_routes.proofs.link.answered.Goals as goal
 
-pub returns-then-takes-clause-answer : goal.returns-then-takes-clause-answer
-returns-then-takes-clause-answer g c =
-    let inbox = c.args.inbox.now in
-    let old = c.args.patterns.now in
-    let new = c.routed.new.patterns in
-    routed_answered (Takes g.I.Inbox.held g.I.Inbox.does) (world_of (g.I.Inbox.shown inbox) (g.P.Patterns.says old)) written_text c.args.now c.args.request c.routed.result c.in-Some.route inbox c.routed.new.inbox
-    (g.P.Patterns.asked old) (g.P.Patterns.asked new) (g.P.Patterns.refusals old) (g.P.Patterns.refusals new) (sym c.in-Some.ensures) (sym c.takes.ensures ∙ c.if-takes.true)
-    c.routed.ensures.answer c.routed.ensures.code
+pub submit-requires : goal.submit-requires
+submit-requires g c =
+    let may = may_be_submitted c.args.now c.args.request c.in_ok-routed.routed c.in-Command.command c.in-Command.is c.in_ok-routed.ensures in
+    record { payload = may.0; received = may.1 }
 
-pub returns-else-takes-clause-answer : goal.returns-else-takes-clause-answer
-returns-else-takes-clause-answer g c =
-    let inbox = c.args.inbox.now in
-    let old = c.args.patterns.now in
-    bad_method (Takes g.I.Inbox.held g.I.Inbox.does) (world_of (g.I.Inbox.shown inbox) (g.P.Patterns.says old)) written_text c.args.now c.args.request c.error.result c.in-Some.route inbox
-    (g.P.Patterns.asked old) (g.P.Patterns.refusals old) (sym c.in-Some.ensures) (sym c.takes.ensures ∙ c.if-takes.false) c.error.ensures
+pub answer_query-requires : goal.answer_query-requires
+answer_query-requires g c = record { asked = is_query c.args.now c.args.request c.in_ok-routed.routed c.in-Query.request c.in-Query.is c.in_ok-routed.ensures }
 
-pub returns-in-None-clause-answer : goal.returns-in-None-clause-answer
-returns-in-None-clause-answer g c =
+pub returns-in_err-routed-clause-answer : goal.returns-in_err-routed-clause-answer
+returns-in_err-routed-clause-answer g c =
     let inbox = c.args.inbox.now in
     let old = c.args.patterns.now in
-    no_path (Takes g.I.Inbox.held g.I.Inbox.does) (world_of (g.I.Inbox.shown inbox) (g.P.Patterns.says old)) written_text c.args.now c.args.request c.error-in-None.result inbox
-    (g.P.Patterns.asked old) (g.P.Patterns.refusals old) (sym c.in-None.ensures) c.error-in-None.ensures
+    not_routed (Takes g.I.Inbox.held g.I.Inbox.does) (world_of (g.I.Inbox.shown inbox) (g.P.Patterns.says old)) written_text c.args.now c.args.request inbox
+    (g.P.Patterns.asked old) (g.P.Patterns.refusals old) _ (search rules)
+
+pub returns-in-Command-clause-answer : goal.returns-in-Command-clause-answer
+returns-in-Command-clause-answer g c =
+    let inbox = c.args.inbox.now in
+    let old = c.args.patterns.now in
+    command_answered (Takes g.I.Inbox.held g.I.Inbox.does) (world_of (g.I.Inbox.shown inbox) (g.P.Patterns.says old)) written_text c.args.now c.args.request inbox
+    (g.P.Patterns.asked old) (g.P.Patterns.refusals old) c.answer_submitted.result c.in_ok-routed.routed c.in-Command.command c.submit.result c.submit.new.self c.in-Command.is c.in_ok-routed.ensures
+    (c.submit.ensures.submits, c.submit.ensures.does) c.answer_submitted.ensures.told c.answer_submitted.ensures.code
+
+pub returns-in-Query-clause-answer : goal.returns-in-Query-clause-answer
+returns-in-Query-clause-answer g c =
+    let inbox = c.args.inbox.now in
+    let old = c.args.patterns.now in
+    let new = c.answer_query.new.patterns in
+    let answer =
+    subst (λ t. AnswersAsked (g.P.Patterns.asked old) (g.P.Patterns.asked new) (g.P.Patterns.refusals old) (g.P.Patterns.refusals new)
+    (IsReadFor c.in-Query.request) (IsAskedAnswer (world_of t (g.P.Patterns.says old)) written_text c.in-Query.request) c.answer_query.result) c.tables.ensures c.answer_query.ensures.answer in
+    asked_answered (Takes g.I.Inbox.held g.I.Inbox.does) (world_of (g.I.Inbox.shown inbox) (g.P.Patterns.says old)) written_text c.args.now c.args.request inbox
+    (g.P.Patterns.asked old) (g.P.Patterns.refusals old) c.answer_query.result c.in_ok-routed.routed c.in-Query.request (g.P.Patterns.asked new) (g.P.Patterns.refusals new) c.in-Query.is c.in_ok-routed.ensures
+    answer c.answer_query.ensures.code
+
+pub returns-in-Done-clause-answer : goal.returns-in-Done-clause-answer
+returns-in-Done-clause-answer g c =
+    let inbox = c.args.inbox.now in
+    let old = c.args.patterns.now in
+    alone_answered (Takes g.I.Inbox.held g.I.Inbox.does) (world_of (g.I.Inbox.shown inbox) (g.P.Patterns.says old)) written_text c.args.now c.args.request inbox
+    (g.P.Patterns.asked old) (g.P.Patterns.refusals old) c.in_ok-routed.routed c.in-Done.answer c.in-Done.is c.in_ok-routed.ensures

@@ -3,8 +3,9 @@ use Rattle.http_front.specs.Link.{limited}
 use Rattle.http_front.specs.Next.{unread}
 use Rattle.paging_text.specs.Shown.{written_text}
 use Rattle.query_engine.specs.Tables.{world_of}
+use Rattle.routes_spec.specs.Links.{IsGiven, IsMetBefore}
 use Rattle.http_routes.specs.Inbox.{Takes}
-use Rattle.http_routes.specs.Course.{outside, Continues, GoesSoFar, AreFewIfTold}
+use Rattle.http_routes.specs.Course.{outside, MovesOutside, Continues, GoesSoFar, AreFewIfTold}
 use Rattle.http_routes.specs.declared.link.LinkEnd.TheVariants.{Closed}
 use Rattle.http_routes.proofs.LinkCourses.{unread_at_first, from_first, few_at_first, same_world, goes_more, ends_so, still_few, so_far_first, so_far_then, so_far_so, without_end, counts_from, counts_none}
 use Rattle.http_routes.proofs.Prints.{history_served}
@@ -22,8 +23,8 @@ serving-init g c =
     let held = g.K.Sink.held link.outgoing in
     let at_first = unread_at_first c.new-reading.result left c.new-reading.ensures.ahead c.new-reading.ensures.taken in
     record {
-      goes = subst (λ k. Continues (Takes g.I.Inbox.held g.I.Inbox.does) w written_text c.args.now (limited 0 left) start held k start held) (sym at_first) (from_first (Takes g.I.Inbox.held g.I.Inbox.does) w written_text c.args.now (limited 0 left) start held);
-      so_far = subst (λ k. GoesSoFar (Takes g.I.Inbox.held g.I.Inbox.does) w written_text c.args.now (limited 0 left) start held k start held) (sym at_first) (so_far_first (Takes g.I.Inbox.held g.I.Inbox.does) w written_text c.args.now (limited 0 left) start held);
+      goes = subst (λ k. Continues (Takes g.I.Inbox.held g.I.Inbox.does) w written_text c.args.now (limited 0 left) start held k start held) (sym at_first) (from_first (IsGiven w written_text c.args.now) (IsMetBefore w written_text c.args.now) (MovesOutside (Takes g.I.Inbox.held g.I.Inbox.does)) (limited 0 left) start held);
+      so_far = subst (λ k. GoesSoFar (Takes g.I.Inbox.held g.I.Inbox.does) w written_text c.args.now (limited 0 left) start held k start held) (sym at_first) (so_far_first (IsGiven w written_text c.args.now) (IsMetBefore w written_text c.args.now) (MovesOutside (Takes g.I.Inbox.held g.I.Inbox.does)) (limited 0 left) start held);
       few = subst (λ k. AreFewIfTold (limited 0 left) 0 k) (sym at_first) (few_at_first left);
       shown = refl;
       same = λ p t. refl;
@@ -128,7 +129,7 @@ returns-clause-served g c =
     let mid = outside c.serving.inbox (g.P.Patterns.asked c.serving.patterns) (g.P.Patterns.refusals c.serving.patterns) in
     let between = g.K.Sink.held c.serving.link.outgoing in
     let many : most_link < c.serving._served = omega arith in
-    without_end (Takes g.I.Inbox.held g.I.Inbox.does) w written_text c.args.now first start held known mid between c.serving._served was.goes was.few many
+    without_end (IsGiven w written_text c.args.now) (IsMetBefore w written_text c.args.now) (MovesOutside (Takes g.I.Inbox.held g.I.Inbox.does)) first start held known mid between c.serving._served was.goes was.few many
 
 pub returns-clause-stands : goal.returns-clause-stands
 returns-clause-stands g c = λ history stands.

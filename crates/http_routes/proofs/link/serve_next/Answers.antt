@@ -1,10 +1,11 @@
-use Rattle.std.proofs.Common.{sym, subst, refl, ◌∙◌}
+use Rattle.std.proofs.Common.{sym, subst, refl, inl, ◌∙◌}
 use Rattle.http_front.specs.Link.{limited}
 use Rattle.http_front.specs.Next.{unread}
 use Rattle.paging_text.specs.Shown.{written_text}
 use Rattle.query_engine.specs.Tables.{world_of}
+use Rattle.routes_spec.specs.Links.{IsGiven, IsMetBefore}
 use Rattle.http_routes.specs.Inbox.{Takes}
-use Rattle.http_routes.specs.Course.{outside, IsServedNext, Serves}
+use Rattle.http_routes.specs.Course.{outside, MovesOutside, IsServedNext, Serves}
 use Rattle.http_routes.specs.declared.link.LinkEnd.TheVariants.{ReadFault}
 use Rattle.routes_spec.proofs.of_plain_laws.Options.{some_is}
 use Rattle.http_routes.proofs.Answering.{body_is_small}
@@ -30,7 +31,8 @@ returns-in-Request-clause-served g c =
     let held = g.K.Sink.held c.args.link.now.outgoing in
     let holds = g.K.Sink.held c.send.new.outgoing in
     subst (λ o. IsServedNext (Takes g.I.Inbox.held g.I.Inbox.does) w written_text c.args.now o known left old new held holds) (sym c.end_of.ensures)
-    (request_served (Takes g.I.Inbox.held g.I.Inbox.does) w written_text c.args.now c.in-Request.request known left old new held holds c.in-Request.ensures.request c.send.result c.answered-answer.result c.answered-answer.ensures.answer c.send.ensures.sent)
+    (request_served (IsGiven w written_text c.args.now) (IsMetBefore w written_text c.args.now) (MovesOutside (Takes g.I.Inbox.held g.I.Inbox.does)) c.in-Request.request known left old new held holds c.in-Request.ensures.request
+    (λ met a given. inl (a, given.is_answer)) c.send.result c.answered-answer.result c.answered-answer.ensures.answer c.send.ensures.sent)
 
 pub returns-in-Request-clause-ongoing : goal.returns-in-Request-clause-ongoing
 returns-in-Request-clause-ongoing g c = λ none. c.in-Request.ensures.over ∙ goes_on_open c.send.result c.in-Request.request.ends (sym c.end_of.ensures ∙ none)
@@ -53,7 +55,7 @@ returns-in-Bad-clause-served g c =
     let holds = g.K.Sink.held c.send-in-Bad.new.outgoing in
     let fault = c.in-Bad.fault in
     subst (λ e. Serves (Takes g.I.Inbox.held g.I.Inbox.does) w written_text c.args.now e known old old held holds) (sym c.end_behind.ensures)
-    (bad_served (Takes g.I.Inbox.held g.I.Inbox.does) w written_text c.args.now known old held holds fault c.send-in-Bad.result c.error-answer.result c.in-Bad.ensures.bad
+    (bad_served (IsGiven w written_text c.args.now) (IsMetBefore w written_text c.args.now) (MovesOutside (Takes g.I.Inbox.held g.I.Inbox.does)) known old held holds fault c.send-in-Bad.result c.error-answer.result c.in-Bad.ensures.bad
     (fault_told fault c.error-answer.result c.fault_code.result c.fault_text.result.now c.fault_code.ensures c.fault_text.ensures c.error-answer.ensures) c.send-in-Bad.ensures.sent)
 
 pub returns-in-Bad-clause-reads : goal.returns-in-Bad-clause-reads
@@ -70,7 +72,7 @@ returns-in-Ended-clause-served g c =
     let known = unread c.args.reading.now (g.S.Source.left c.args.link.now.incoming) in
     let old = outside c.args.inbox.now (g.P.Patterns.asked c.args.patterns.now) (g.P.Patterns.refusals c.args.patterns.now) in
     let held = g.K.Sink.held c.args.link.now.outgoing in
-    ended_served (Takes g.I.Inbox.held g.I.Inbox.does) w written_text c.args.now known old held held (c.in-Ended.ensures.ended c.requires.ongoing) refl
+    ended_served (IsGiven w written_text c.args.now) (IsMetBefore w written_text c.args.now) (MovesOutside (Takes g.I.Inbox.held g.I.Inbox.does)) known old held held (c.in-Ended.ensures.ended c.requires.ongoing) refl
 
 pub returns-in-ReadFault-clause-served : goal.returns-in-ReadFault-clause-served
 returns-in-ReadFault-clause-served g c =
@@ -78,7 +80,7 @@ returns-in-ReadFault-clause-served g c =
     let known = unread c.args.reading.now (g.S.Source.left c.args.link.now.incoming) in
     let old = outside c.args.inbox.now (g.P.Patterns.asked c.args.patterns.now) (g.P.Patterns.refusals c.args.patterns.now) in
     let held = g.K.Sink.held c.args.link.now.outgoing in
-    unread_served (Takes g.I.Inbox.held g.I.Inbox.does) w written_text c.args.now known old held held refl
+    unread_served (IsGiven w written_text c.args.now) (IsMetBefore w written_text c.args.now) (MovesOutside (Takes g.I.Inbox.held g.I.Inbox.does)) known old held held refl
 
 pub returns-in-Memory-clause-served : goal.returns-in-Memory-clause-served
 returns-in-Memory-clause-served g c =
@@ -88,7 +90,7 @@ returns-in-Memory-clause-served g c =
     let held = g.K.Sink.held c.args.link.now.outgoing in
     let holds = g.K.Sink.held c.send_memory.new.outgoing in
     subst (λ e. Serves (Takes g.I.Inbox.held g.I.Inbox.does) w written_text c.args.now e known old old held holds) (sym c.end_behind-in-Memory.ensures)
-    (memory_served (Takes g.I.Inbox.held g.I.Inbox.does) w written_text c.args.now known old held holds c.send_memory.result c.send_memory.ensures.sent)
+    (memory_served (IsGiven w written_text c.args.now) (IsMetBefore w written_text c.args.now) (MovesOutside (Takes g.I.Inbox.held g.I.Inbox.does)) known old held holds c.send_memory.result c.send_memory.ensures.sent)
 
 pub returns-in-Memory-clause-reads : goal.returns-in-Memory-clause-reads
 returns-in-Memory-clause-reads g c =
@@ -116,4 +118,4 @@ returns-in-ReadFault-clause-so_far g c = λ _.
     let rest = limited c.next_request.new.incoming.taken (g.S.Source.left c.next_request.new.link) in
     let old = outside c.args.inbox.now (g.P.Patterns.asked c.args.patterns.now) (g.P.Patterns.refusals c.args.patterns.now) in
     let held = g.K.Sink.held c.args.link.now.outgoing in
-    stopped_served (Takes g.I.Inbox.held g.I.Inbox.does) w written_text c.args.now known rest old held held refl (c.in-ReadFault.ensures.fault refl)
+    stopped_served (IsGiven w written_text c.args.now) (IsMetBefore w written_text c.args.now) (MovesOutside (Takes g.I.Inbox.held g.I.Inbox.does)) known rest old held held refl (c.in-ReadFault.ensures.fault refl)

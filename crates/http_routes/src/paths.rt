@@ -3,6 +3,7 @@ ghost use Rattle.std.specs.Prelude.{◌≡◌, bytes_eq};
 ghost use Rattle.routes_spec.specs.Routes.{path_of, query_of, route_at, is_get, is_post, takes_method};
 
 use fleet_rows::Entity;
+use http_spec::Request;
 use routes_spec::Route;
 
 // The path and the query of a target.
@@ -16,8 +17,8 @@ fn split_target(target: &[u8]) -> (&[u8], &[u8])
     }
 }
 
-/// The path of a target.
-pub(crate) fn path_of(target: &[u8]) -> &[u8]
+// The path of a target.
+fn path_of(target: &[u8]) -> &[u8]
     ensures { result.now ≡ path_of target.now }
 {
     split_target(target).0
@@ -37,9 +38,9 @@ fn is_equal(bytes: &[u8], other: &[u8]) -> bool
     bytes == other
 }
 
-/// The route of a path.
+// The route of a path.
 #[tactic(auto, unfolding(routes_spec::specs::Routes::route_at))]
-pub(crate) fn route_at(path: &[u8]) -> Option<Route>
+fn route_at(path: &[u8]) -> Option<Route>
     ensures { result ≡ route_at path.now }
 {
     if is_equal(path, b"/pdb/cmd/v1") {
@@ -78,12 +79,27 @@ pub(crate) fn is_post(method: &[u8]) -> bool
     is_equal(method, b"POST")
 }
 
-/// Whether the route allows the method.
-pub(crate) fn takes_method(route: Route, method: &[u8]) -> bool
+// Whether the route allows the method.
+fn takes_method(route: Route, method: &[u8]) -> bool
     ensures { result ≡ takes_method route method.now }
 {
     match route {
         Route::Commands => is_post(method),
         Route::Queries | Route::RowsOf(_) => is_get(method) || is_post(method),
     }
+}
+
+/// The route of a request.
+pub(crate) fn route_of(request: &Request) -> Option<Route>
+    ensures { result ≡ route_at (path_of request.now.target) }
+{
+    let path = path_of(request.target.as_slice());
+    route_at(path)
+}
+
+/// Whether the route allows the request's method.
+pub(crate) fn takes(route: Route, request: &Request) -> bool
+    ensures { result ≡ takes_method route request.now.method }
+{
+    takes_method(route, request.method.as_slice())
 }

@@ -3,7 +3,7 @@ use Rattle.std.specs.Prelude.{codes, IfOk}
 use Rattle.http_spec.specs.declared.answer.Answer.{Answer}
 use Rattle.routes_spec.specs.Answers.{done, error, uuid_body, submitted_answer}
 use Rattle.http_routes.proofs.Results.{has_code}
-use Rattle.http_routes.proofs.post.submitted.Goals as goal
+use Rattle.http_routes.proofs.answers.answer_submitted.Goals as goal
 
 pub returns-in-Receipt-clause-code : goal.returns-in-Receipt-clause-code
 returns-in-Receipt-clause-code c = has_code (done c.args.ends None (uuid_body c.in-Receipt.receipt)) c.taken.result (λ h. omega (arith, h)) c.taken.ensures
