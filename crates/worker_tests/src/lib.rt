@@ -1,5 +1,4 @@
-//! Tests of threads: of the lock by which they take turns (`turn_lock`), and of workers at one core (`fleet_hub`). There is nothing here but
-//! tests.
+//! Tests of workers at one core (`fleet_hub`). There is nothing here but tests.
 #![tactic(auto)]
 
 #[cfg(test)]
@@ -14,5 +13,3 @@ mod made;
 mod said;
 #[cfg(test)]
 mod shown;
-#[cfg(test)]
-mod turns;
