@@ -1,51 +1,13 @@
 //! Spools as they come, and as they must not.
-ghost use Rattle.std.specs.Prelude.{None};
-
-use port_memory::fleet_ports::{Source, Took};
 use spool_text::stamp_time::Moment;
 use spool_text::{NextItem, Spool, SpoolReader};
 use std::alloc::{AllocError, Global};
 use std::process::Abort;
+use test_support::Pieces;
 
-/// Bytes that are handed out in pieces of at most so many, up to a call that fails. It tells no content.
-#[derive(Drop)]
-struct Pieces<'a> {
-    bytes: &'a [u8],
-    most: usize,
-    calls: u64,
-    fails_at: u64,
-    faults: u64,
-}
-
-impl Source for Pieces<'_> {
-    ghost left = { λ _. None };
-
-    ghost fault_count = { λ s. s.faults };
-
-    fn read_some(&mut self, into: &mut [u8]) -> Took {
-        self.calls = self.calls.saturating_add(1);
-        if self.calls == self.fails_at {
-            self.faults = self.faults.saturating_add(1);
-            return Took::Failed;
-        }
-        let count = self.bytes.len().min(into.len()).min(self.most.max(1));
-        if count == 0 {
-            return Took::Ended;
-        }
-        into[..count].copy_from_slice(&self.bytes[..count]);
-        self.bytes = &self.bytes[count..];
-        Took::Bytes(count)
-    }
-}
-
-fn cut_into(bytes: &[u8], most: usize, fails_at: u64) -> Pieces<'_> {
-    Pieces {
-        bytes,
-        most,
-        calls: 0,
-        fails_at,
-        faults: 0,
-    }
+// The bytes in pieces of at most so many, up to a call that fails.
+fn cut_into(alloc: Global, bytes: &[u8], most: usize, fails_at: u64) -> Result<Pieces, AllocError> {
+    Ok(Pieces::new(Vec::from_slice(alloc, bytes)?, most, fails_at))
 }
 
 // What one item says.
@@ -70,7 +32,7 @@ fn one_item(alloc: Global, item: &NextItem) -> Result<String, AllocError> {
 }
 
 // What a spool of at most ten items says, up to the first answer that is none.
-fn all_items(alloc: Global, source: Pieces<'_>) -> Result<String, AllocError> {
+fn all_items(alloc: Global, source: Pieces) -> Result<String, AllocError> {
     let mut told = String::new(alloc);
     let mut spool = Spool::new(alloc, source);
     for _ in 0..10 {
@@ -92,7 +54,7 @@ fn says(
     fails_at: u64,
     told: &str,
 ) -> Result<bool, AllocError> {
-    let text = all_items(alloc, cut_into(bytes, most, fails_at))?;
+    let text = all_items(alloc, cut_into(alloc, bytes, most, fails_at)?)?;
     Ok(text.as_str() == told)
 }
 
@@ -202,11 +164,11 @@ fn is_report(next: &NextItem, size: usize, received: Moment) -> bool {
 fn is_followed(alloc: Global, size: usize, most: usize) -> Result<bool, AllocError> {
     let received = Moment::from_nanosecond(3);
     let bytes = report_and_sweep(alloc, size)?;
-    let mut spool = Spool::new(alloc, cut_into(bytes.as_slice(), most, 0));
+    let mut spool = Spool::new(alloc, Pieces::new(bytes, most, 0));
     let first = is_report(&spool.next_item(received), size, received);
     let second = matches!(spool.next_item(received), NextItem::Sweep(..));
     let third = matches!(spool.next_item(received), NextItem::End);
-    Ok(first && second && third && spool.into_source().bytes.is_empty())
+    Ok(first && second && third && spool.into_source().left() == 0)
 }
 
 #[test]
@@ -244,7 +206,7 @@ fn says_each(
     fails_at: u64,
     told: &[&str],
 ) -> Result<bool, AllocError> {
-    let mut source = cut_into(bytes, 1000, fails_at);
+    let mut source = cut_into(alloc, bytes, 1000, fails_at)?;
     let mut reader = SpoolReader::new(alloc);
     for text in told {
         let next = reader.next_item(&mut source, Moment::from_nanosecond(0));
