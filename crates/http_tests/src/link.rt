@@ -1,11 +1,10 @@
-//! A link whose bytes come in pieces, and that keeps what is written; and what is read of one.
+//! A link whose bytes come in pieces, and that keeps what is written.
 ghost use Rattle.std.specs.Prelude.{None};
 
 use fleet_ports::{Put, Sink, Source, Took};
 use front_port::Link;
-use http_front::{HttpFault, Incoming, NextRequest, Request, next_request};
 use json_tree::Bytes;
-use std::alloc::{AllocError, Global};
+use std::alloc::Global;
 
 /// Gives at most so many bytes a call, and fails at one call.
 #[derive(Drop)]
@@ -28,10 +27,6 @@ impl Pieces {
             fails_at,
             faults: 0,
         }
-    }
-
-    pub(crate) fn faults(&self) -> u64 {
-        self.faults
     }
 }
 
@@ -103,50 +98,4 @@ pub(crate) fn link_of(
             faults: 0,
         },
     }
-}
-
-fn fault_word(fault: HttpFault) -> &'static str {
-    match fault {
-        HttpFault::BadHead => "bad head",
-        HttpFault::BadLength => "bad length",
-        HttpFault::HeadTooLarge => "head too large",
-        HttpFault::NoLength => "length required",
-        HttpFault::BodyTooLarge => "body too large",
-    }
-}
-
-fn write_request(text: &mut Vec<u8>, request: &Request) -> Result<(), AllocError> {
-    text.extend_from_slice(request.method.as_slice())?;
-    text.extend_from_slice(b" ")?;
-    text.extend_from_slice(request.target.as_slice())?;
-    for head in request.headers.as_slice() {
-        text.extend_from_slice(b" ")?;
-        text.extend_from_slice(head.name.as_slice())?;
-        text.extend_from_slice(b"=")?;
-        text.extend_from_slice(head.value.as_slice())?;
-    }
-    text.extend_from_slice(b" [")?;
-    text.extend_from_slice(request.body.as_slice())?;
-    text.extend_from_slice(if request.ends { b"] ends" } else { b"]" })
-}
-
-/// All that is read of a link, each answer before a `/`. The link isn't asked again once it is over, but for one call.
-pub(crate) fn readings(
-    alloc: Global,
-    link: &mut Pieces,
-    most: usize,
-) -> Result<Vec<u8>, AllocError> {
-    let mut incoming = Incoming::new(alloc);
-    let mut text = Vec::new(alloc);
-    for _ in 0..most {
-        match next_request(&mut incoming, link) {
-            NextRequest::Request(request) => write_request(&mut text, &request)?,
-            NextRequest::Bad(fault) => text.extend_from_slice(fault_word(fault).as_bytes())?,
-            NextRequest::Ended => text.extend_from_slice(b"ended")?,
-            NextRequest::ReadFault => text.extend_from_slice(b"read fault")?,
-            NextRequest::Memory => return Err(AllocError),
-        }
-        text.extend_from_slice(b"/")?;
-    }
-    Ok(text)
 }

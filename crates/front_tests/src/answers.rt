@@ -1,11 +1,11 @@
 //! Answers byte for byte.
-use crate::link::Pieces;
 use crate::wrong::{Wrong, holds};
 use http_front::{Answer, Incoming, NextRequest, next_request, write_answer, write_memory_answer};
 use port_memory::fleet_ports::{Wrote, write_all};
 use port_memory::json_tree::Bytes;
 use port_memory::{MemorySink, Numbers};
 use std::alloc::{AllocError, Global};
+use test_support::Pieces;
 
 /// The code, the count of records, the number of the last event, whether the connection closes, and the body of an answer, and the
 /// bytes that are sent.
@@ -140,7 +140,7 @@ fn is_written(sink: &mut MemorySink, text: &Bytes) -> bool {
 
 // Whether the requests, in pieces of so many bytes, are answered as wanted.
 fn are_answered(alloc: Global, piece: usize) -> Result<bool, AllocError> {
-    let mut link = Pieces::new(Bytes::from_slice(alloc, TWO_REQUESTS)?, piece, 0);
+    let mut link = Pieces::new(Vec::from_slice(alloc, TWO_REQUESTS)?, piece, 0);
     let mut sink = MemorySink::new(alloc, Numbers::new(alloc));
     let mut incoming = Incoming::new(alloc);
     for _ in 0..3 {
