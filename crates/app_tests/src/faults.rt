@@ -25,14 +25,34 @@ ask ["from","facts"]
 told [{"certname":"a","environment":"production","name":"k","value":2}]
 "#;
 
-const FOUR_FAULTS: &str = r#"each <disk>=0,1 <call>=1..65
+const FOUR_FAULTS: &str = r#"each <disk>=0 <call>=1..33,41..47
 outcome fault 6 queue fault
+
+each <disk>=0 <call>=33..41
 outcome fault 0
+
+each <disk>=0 <call>=47..65
 outcome calm 0
 
-each <disk>=2,3 <call>=1..65
+each <disk>=1 <call>=1..24
+outcome fault 6 queue fault
+
+each <disk>=1 <call>=24..65
+outcome calm 0
+
+each <disk>=2 <call>=1..18,22..32
 outcome fault 14 store fault
+
+each <disk>=2 <call>=18..22
 outcome fault 0
+
+each <disk>=2 <call>=32..65
+outcome calm 0
+
+each <disk>=3 <call>=1..27
+outcome fault 14 store fault
+
+each <disk>=3 <call>=27..65
 outcome calm 0"#;
 
 const OTHERS: &str = r#"each <call>=1,2
