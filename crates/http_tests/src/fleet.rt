@@ -9,9 +9,17 @@ use fleet_tables::Tables;
 use json_tree::Bytes;
 use stamp_time::Moment;
 use std::alloc::Global;
+use test_support::parted;
 
-/// A command: its kind and its payload.
-pub(crate) type Sent = (Kind, &'static str);
+fn kind_of(word: &str) -> Kind {
+    match word {
+        "facts" => Kind::Facts,
+        "catalog" => Kind::Catalog,
+        "report" => Kind::Report,
+        "deactivate" => Kind::Deactivate,
+        _ => Kind::Expiration,
+    }
+}
 
 // The version that is taken.
 fn version(kind: Kind) -> u32 {
@@ -43,8 +51,8 @@ fn change(alloc: Global, kind: Kind, payload: &[u8]) -> Result<Change, Wrong>
     }
 }
 
-/// Applies a command that isn't refused.
-pub(crate) fn apply(
+// Applies a command that isn't refused.
+fn apply(
     alloc: Global,
     tables: &mut Tables,
     receipt: u64,
@@ -57,11 +65,14 @@ pub(crate) fn apply(
     Ok(())
 }
 
-/// Tables that these commands were applied to, in their order.
-pub(crate) fn tables_of(alloc: Global, fleet: &[Sent]) -> Result<Tables, Wrong> {
+/// Tables that these commands were applied to, in their order: one a line, by its kind and its payload.
+pub(crate) fn tables_of(alloc: Global, fleet: &str) -> Result<Tables, Wrong> {
     let mut tables = Tables::new(alloc, Ttls::default_lifetimes());
-    for (at, (kind, payload)) in fleet.iter().enumerate() {
-        apply(alloc, &mut tables, at as u64 + 1, *kind, payload)?;
+    for (at, line) in fleet.split('\n').enumerate() {
+        let (word, payload) = parted(line, " ");
+        if !line.is_empty() {
+            apply(alloc, &mut tables, at as u64 + 1, kind_of(word), payload)?;
+        }
     }
     Ok(tables)
 }

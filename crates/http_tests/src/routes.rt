@@ -1,138 +1,87 @@
 //! The routes and their methods.
-use crate::served::{answer, is_answered, request};
-use crate::wrong::{Wrong, holds};
-use std::alloc::Global;
+use crate::play::play;
+use crate::wrong::Wrong;
 
-/// A path, and the status and the body of the answer to a GET of it and to an empty object that is posted, over no commands.
-type Answers = (
-    &'static str,
-    &'static str,
-    &'static str,
-    &'static str,
-    &'static str,
-);
+/// What each route answers to a GET, and to an empty object that is posted, over no commands; and to other methods.
+const ROUTES: &str = r#"for nodes factsets facts catalogs resources edges reports
+ask GET /pdb/query/v4/<it>
+ok []
 
-const ROUTES: &[Answers] = &[
-    ("/pdb/query/v4/nodes", "200 OK", "[]", "200 OK", "[]"),
-    ("/pdb/query/v4/factsets", "200 OK", "[]", "200 OK", "[]"),
-    ("/pdb/query/v4/facts", "200 OK", "[]", "200 OK", "[]"),
-    ("/pdb/query/v4/catalogs", "200 OK", "[]", "200 OK", "[]"),
-    ("/pdb/query/v4/resources", "200 OK", "[]", "200 OK", "[]"),
-    ("/pdb/query/v4/edges", "200 OK", "[]", "200 OK", "[]"),
-    ("/pdb/query/v4/reports", "200 OK", "[]", "200 OK", "[]"),
-    (
-        "/pdb/query/v4",
-        "400 Bad Request",
-        r#"{"error":"missing query"}"#,
-        "400 Bad Request",
-        r#"{"error":"missing query"}"#,
-    ),
-    (
-        "/pdb/cmd/v1",
-        "405 Method Not Allowed",
-        r#"{"error":"bad method"}"#,
-        "400 Bad Request",
-        r#"{"error":"missing command"}"#,
-    ),
-];
+for nodes factsets facts catalogs resources edges reports
+ask POST /pdb/query/v4/<it> {}
+ok []
 
-const OTHER_METHODS: [&str; 5] = ["PUT", "HEAD", "DELETE", "OPTIONS", "get"];
+ask GET /pdb/query/v4
+bad {"error":"missing query"}
 
-/// Paths of no route.
-const NO_ROUTES: &[&str] = &[
-    "/",
-    "*",
-    "/pdb",
-    "/pdb/query/v4/",
-    "/pdb/query/v4/nodes/",
-    "/pdb/query/v4/nodes/n",
-    "/pdb/query/v4/Nodes",
-    "/pdb/query/v4/node",
-    "/pdb/query/v4/%6eodes",
-    "/pdb/query/v4/events",
-    "/pdb/query/v3/nodes",
-    "/pdb//query/v4",
-    "/pdb/cmd/v1/",
-    "/pdb/cmd/v1/commands",
-    "/v4/commands",
-    "http://h/pdb/query/v4",
-];
+ask POST /pdb/query/v4 {}
+bad {"error":"missing query"}
 
-// Whether a request with this body is answered so.
-fn is_told(
-    alloc: Global,
-    method: &str,
-    path: &str,
-    body: &str,
-    status: &str,
-    told: &str,
-) -> Result<bool, Wrong> {
-    let line = format!(in alloc; "{method} {path}")?;
-    let bytes = request(alloc, line.as_str(), "", body)?;
-    let wanted = answer(alloc, status, "", told)?;
-    is_answered(alloc, &[], bytes.as_bytes(), wanted.as_bytes())
-}
+ask GET /pdb/cmd/v1
+answer 405 Method Not Allowed||{"error":"bad method"}
 
-fn takes_its_methods(alloc: Global, route: &Answers) -> Result<bool, Wrong> {
-    let (path, status, told, posted_status, posted_told) = route;
-    let got = is_told(alloc, "GET", path, "", status, told)?;
-    let posted = is_told(alloc, "POST", path, "{}", posted_status, posted_told)?;
-    Ok(got && posted)
-}
+ask POST /pdb/cmd/v1 {}
+bad {"error":"missing command"}
 
-fn takes_no_other(alloc: Global, path: &str) -> Result<bool, Wrong> {
-    for method in OTHER_METHODS {
-        if !is_told(
-            alloc,
-            method,
-            path,
-            "{}",
-            "405 Method Not Allowed",
-            r#"{"error":"bad method"}"#,
-        )? {
-            return Ok(false);
-        }
-    }
-    Ok(true)
-}
+for PUT HEAD DELETE OPTIONS get
+ask <it> /pdb/query/v4/nodes {}
+answer 405 Method Not Allowed||{"error":"bad method"}
 
-fn each_takes_its_methods(alloc: Global) -> Result<(), Wrong> {
-    for (at, route) in ROUTES.iter().enumerate() {
-        let taken = takes_its_methods(alloc, route)? && takes_no_other(alloc, route.0)?;
-        holds(taken, at)?;
-    }
-    Ok(())
-}
+for PUT HEAD DELETE OPTIONS get
+ask <it> /pdb/query/v4/factsets {}
+answer 405 Method Not Allowed||{"error":"bad method"}
+
+for PUT HEAD DELETE OPTIONS get
+ask <it> /pdb/query/v4/facts {}
+answer 405 Method Not Allowed||{"error":"bad method"}
+
+for PUT HEAD DELETE OPTIONS get
+ask <it> /pdb/query/v4/catalogs {}
+answer 405 Method Not Allowed||{"error":"bad method"}
+
+for PUT HEAD DELETE OPTIONS get
+ask <it> /pdb/query/v4/resources {}
+answer 405 Method Not Allowed||{"error":"bad method"}
+
+for PUT HEAD DELETE OPTIONS get
+ask <it> /pdb/query/v4/edges {}
+answer 405 Method Not Allowed||{"error":"bad method"}
+
+for PUT HEAD DELETE OPTIONS get
+ask <it> /pdb/query/v4/reports {}
+answer 405 Method Not Allowed||{"error":"bad method"}
+
+for PUT HEAD DELETE OPTIONS get
+ask <it> /pdb/query/v4 {}
+answer 405 Method Not Allowed||{"error":"bad method"}
+
+for PUT HEAD DELETE OPTIONS get
+ask <it> /pdb/cmd/v1 {}
+answer 405 Method Not Allowed||{"error":"bad method"}"#;
 
 #[test]
 fn each_route_takes_its_methods(rt: HostRuntime) -> Result<(), Wrong> {
-    each_takes_its_methods(rt.alloc())
+    play(rt.alloc(), "", "", ROUTES)
 }
 
-fn is_no_route(alloc: Global, path: &str) -> Result<bool, Wrong> {
-    for method in ["GET", "POST", "PUT"] {
-        if !is_told(
-            alloc,
-            method,
-            path,
-            "{}",
-            "404 Not Found",
-            r#"{"error":"no such path"}"#,
-        )? {
-            return Ok(false);
-        }
-    }
-    Ok(true)
-}
+/// Paths of no route.
+const NO_ROUTES: &str = r#"\
+for / * /pdb /pdb/query/v4/ /pdb/query/v4/nodes/ /pdb/query/v4/nodes/n /pdb/query/v4/Nodes /pdb/query/v4/node /pdb/query/v4/%6eodes /pdb/query/v4/events \
+/pdb/query/v3/nodes /pdb//query/v4 /pdb/cmd/v1/ /pdb/cmd/v1/commands /v4/commands http://h/pdb/query/v4
+ask GET <it> {}
+answer 404 Not Found||{"error":"no such path"}
 
-fn none_is_a_route(alloc: Global) -> Result<(), Wrong> {
-    for (at, path) in NO_ROUTES.iter().enumerate() {
-        holds(is_no_route(alloc, path)?, at)?;
-    }
-    Ok(())
-}
+for / * /pdb /pdb/query/v4/ /pdb/query/v4/nodes/ /pdb/query/v4/nodes/n /pdb/query/v4/Nodes /pdb/query/v4/node /pdb/query/v4/%6eodes /pdb/query/v4/events \
+/pdb/query/v3/nodes /pdb//query/v4 /pdb/cmd/v1/ /pdb/cmd/v1/commands /v4/commands http://h/pdb/query/v4
+ask POST <it> {}
+answer 404 Not Found||{"error":"no such path"}
+
+for / * /pdb /pdb/query/v4/ /pdb/query/v4/nodes/ /pdb/query/v4/nodes/n /pdb/query/v4/Nodes /pdb/query/v4/node /pdb/query/v4/%6eodes /pdb/query/v4/events \
+/pdb/query/v3/nodes /pdb//query/v4 /pdb/cmd/v1/ /pdb/cmd/v1/commands /v4/commands http://h/pdb/query/v4
+ask PUT <it> {}
+answer 404 Not Found||{"error":"no such path"}"#;
 
 #[test]
 fn other_paths_are_no_routes(rt: HostRuntime) -> Result<(), Wrong> {
-    none_is_a_route(rt.alloc())
+    play(rt.alloc(), "", "", NO_ROUTES)
 }

@@ -1,6 +1,6 @@
 //! A client over the loopback that sends its next request only when the answer to the one before has come whole.
-use crate::outside::Says;
-use crate::served::inbox_of;
+use crate::fleet::tables_of;
+use crate::outside::{OneInbox, Says};
 use fleet_ports::{Put, Sink};
 use front_port::{Arrived, Front, Link};
 use front_tcp::{TcpFront, TcpIncoming, TcpOutgoing};
@@ -84,9 +84,10 @@ fn answers(
     stream: TcpStream,
 ) -> Option<u32> {
     let now = read_stamp("2024-05-02T00:00:00Z")?;
-    let Ok(mut inbox) = inbox_of(alloc, &[], Says::Taking) else {
+    let Ok(tables) = tables_of(alloc, "") else {
         return None;
     };
+    let mut inbox = OneInbox::new(alloc, tables, Says::Taking);
     let mut patterns = RegexPatterns::new(alloc);
     let mut link = Link {
         incoming,
