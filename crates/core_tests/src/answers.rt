@@ -1,5 +1,4 @@
 //! What a core answers to the words of a session.
-use crate::notes::{Notes, gives, number_of, parted, parts_of, says};
 use crate::worker::{Came, rests, send, sweep, work, work_late, work_released};
 use command_core::{Compacted, Core, DownBy, Submitted, Tally};
 use fleet_keeper::Keeper;
@@ -7,6 +6,7 @@ use fleet_ports::Disk;
 use fleet_rows::{Entity, Kind};
 use json_tree::Text;
 use std::alloc::{AllocError, Global};
+use test_support::{Notes, count_of, gives, parted, parts_of, says};
 
 /// Four commands, each of a node of its own: facts of `a`, `b`, `c` and `d`. The values of `b` are refused.
 static FOUR: [&str; 4] = [
@@ -284,10 +284,10 @@ fn is_so<D: Disk + Drop, K: Keeper + Drop>(
     text: &str,
 ) -> Result<bool, AllocError> {
     match word {
-        "fill" => fill(alloc, core, number_of(text)),
+        "fill" => fill(alloc, core, count_of(text)),
         "rests" => Ok(rests(core, false)),
         "rests-compacted" => Ok(rests(core, true)),
-        "discarded" => Ok(is_discarded(core, number_of(text))),
+        "discarded" => Ok(is_discarded(core, count_of(text))),
         "keeps" => {
             told.left = standing(core);
             Ok(keeps(told))
@@ -343,7 +343,7 @@ pub(crate) fn answer<D: Disk + Drop, K: Keeper + Drop>(
         "four" => gives(notes, send_four(alloc, core, true), wanted),
         "serve" => serve(alloc, core, told, true),
         "firmly" => serve(alloc, core, told, false),
-        "work" => work_often(notes, core, number_of(text), wanted),
+        "work" => work_often(notes, core, count_of(text), wanted),
         "drain" => gives(notes, turns(alloc, core, false), wanted),
         "late" => gives(notes, work_late(alloc, core), wanted),
         "released" => gives(notes, work_released(alloc, core), wanted),

@@ -1,13 +1,15 @@
 //! Cores over laid disks: sessions between openings and crashes.
 use crate::answers::{SILENCE, Told, answer};
-use crate::disks::{Fault, NO_FAULT, crashed_disks, fused_disks, weak_disks};
-use crate::notes::{Notes, behind, numbers_of, parted, parts_of, says};
 use command_core::{Core, DownBy, LayCoreFault, lay_core, open_core};
 use fleet_keeper::LogKeeper;
 use fleet_ports::{Disk, Disks};
 use fleet_rows::Ttls;
 use port_memory::{FuseDisk, MemoryDisk};
 use std::alloc::{AllocError, Global};
+use test_support::{
+    Fault, NO_FAULT, Notes, behind, crashed_disks, fused_disks, numbers_of, parted, parts_of, says,
+    weak_disks,
+};
 
 // Whether the files are laid.
 fn is_laid(alloc: Global, disks: &mut Disks<MemoryDisk>) -> bool {

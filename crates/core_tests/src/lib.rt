@@ -1,6 +1,5 @@
-//! Tests of the core and of its parts, over disks in memory: pending commands (`supersede_core`), discarded ones (`retry_discard`), the keeper
-//! of the store (`fleet_keeper`), what an opening reads (`core_opening`), and the core itself (`command_core`). The cases are lines of
-//! text, which `trials` reads. There is nothing here but tests.
+//! Tests of the core over disks in memory: what an opening reads (`core_opening`), and the core itself (`command_core`). The cases are
+//! lines of text, which `tried` of `test_support` reads. There is nothing here but tests.
 #![tactic(auto)]
 
 #[cfg(test)]
@@ -10,30 +9,10 @@ mod core_cases;
 #[cfg(test)]
 mod cores;
 #[cfg(test)]
-mod discarded;
-#[cfg(test)]
-mod disks;
-#[cfg(test)]
-mod keepers;
-#[cfg(test)]
-mod notes;
+mod opening_cases;
 #[cfg(test)]
 mod openings;
 #[cfg(test)]
-mod plain;
-#[cfg(test)]
-mod queue;
-#[cfg(test)]
-mod queue_cases;
-#[cfg(test)]
-mod records;
-#[cfg(test)]
-mod scripts;
-#[cfg(test)]
-mod store_cases;
-#[cfg(test)]
 mod trials;
-#[cfg(test)]
-mod waiting;
 #[cfg(test)]
 mod worker;

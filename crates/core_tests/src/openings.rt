@@ -1,7 +1,4 @@
 //! What an opening reads in files.
-use crate::disks::{Fault, weak_disks};
-use crate::notes::{Notes, behind, parted, parts_of, says};
-use crate::records::file;
 use core_opening::{OpenCoreFault, open_state};
 use core_state::CoreState;
 use fleet_keeper::LogKeeper;
@@ -9,6 +6,7 @@ use fleet_ports::{Disk, Disks};
 use fleet_rows::Entity;
 use port_memory::MemoryDisk;
 use std::alloc::{AllocError, Global};
+use test_support::{Fault, Notes, behind, file, parted, parts_of, says, weak_disks};
 
 // The parts of a core over the files, or the disks. No function above needs what an opening ensures.
 fn opened<D: Disk + Drop>(

@@ -1,9 +1,9 @@
 //! Pending commands: what the list of them answers to the words of a case.
-use crate::notes::{Notes, gives, number_of, parted, parts_of, says};
 use crate::queue::{Queue, added, command, group};
 use fleet_rows::Kind;
 use std::alloc::{AllocError, Global};
 use supersede_core::Pending;
+use test_support::{Notes, count_of, gives, parted, parts_of, says};
 
 fn least(pending: &Pending) -> Option<u64> {
     pending.least()
@@ -38,9 +38,9 @@ fn add(
     } else {
         Kind::Facts
     };
-    let node = (word != "single").then_some(number_of(node) as usize);
+    let node = (word != "single").then_some(count_of(node) as usize);
     let group = group(alloc, node, kind, stamp_of(stamp))?;
-    added(alloc, queue, number_of(size) as usize, group)
+    added(alloc, queue, count_of(size) as usize, group)
 }
 
 // Adds as many commands of one group as there is room for, their stamps so far apart.
@@ -73,10 +73,10 @@ fn answer(notes: &mut Notes, queue: &mut Queue, item: &str) -> Result<(), AllocE
     let (word, text) = parted(call, " ");
     match word {
         "fill" => gives(notes, fill(alloc, queue, stamp_of(text)), wanted),
-        "mark" => says(notes, queue.mark(number_of(text)), wanted),
-        "unmark" => says(notes, queue.unmark(number_of(text)), wanted),
-        "take" => says(notes, queue.take(number_of(text)), wanted),
-        "fail" => says(notes, queue.count_failure(number_of(text)), wanted),
+        "mark" => says(notes, queue.mark(count_of(text)), wanted),
+        "unmark" => says(notes, queue.unmark(count_of(text)), wanted),
+        "take" => says(notes, queue.take(count_of(text)), wanted),
+        "fail" => says(notes, queue.count_failure(count_of(text)), wanted),
         "least" | "count" | "queued" | "size" => look(notes, &queue.pending, word, wanted),
         _ => gives(notes, add(alloc, queue, word, text), wanted),
     }

@@ -3,9 +3,6 @@ ghost use Rattle.std.specs.Prelude.{◌≡◌, false, IfOk};
 ghost use Rattle.std.specs.List.{AllByRecursion};
 ghost use Rattle.fleet_keeper.specs.record_spec.Store.{IsStoreRecord};
 
-use crate::disks::{Fault, NO_FAULT, crashed_disk, fused, weak_disk};
-use crate::notes::{Notes, behind, both, number_of, parted, parts_of, says};
-use crate::records::{file, record_of};
 use fleet_keeper::store_records::read_store;
 use fleet_keeper::{
     Keeper, Kept, LogKeeper, MemoryKeeper, Numbers, Side, Spelt, StoreRecord, StoreRecords,
@@ -14,6 +11,10 @@ use fleet_keeper::{
 use fleet_ports::Disk;
 use port_memory::FuseDisk;
 use std::alloc::{AllocError, Global};
+use test_support::{
+    Fault, NO_FAULT, Notes, behind, both, count_of, crashed_disk, file, fused, parted, parts_of,
+    record_of, says, weak_disk,
+};
 
 // The change with this receipt.
 fn applied(alloc: Global, digit: u8) -> Result<StoreRecord, AllocError>
@@ -180,7 +181,7 @@ fn call<K: Keeper + Drop>(
     let (word, digit) = parted(what, " ");
     let byte = digit.as_bytes().first().copied().unwrap_or(0);
     let kept = kept_by(alloc, keeper, word, byte)?;
-    count(run, kept, (word != "renew").then_some(number_of(digit)));
+    count(run, kept, (word != "renew").then_some(count_of(digit)));
     says(notes, kept, wanted)
 }
 
@@ -403,8 +404,8 @@ pub(crate) fn try_keeper(notes: &mut Notes, script: &str, fault: Fault) -> Resul
 fn two_numbers(alloc: Global, list: &str) -> Result<Numbers, AllocError> {
     let (first, second) = parted(list, " ");
     let mut numbers = Numbers::new(alloc);
-    numbers.push(number_of(first))?;
-    numbers.push(number_of(second))?;
+    numbers.push(count_of(first))?;
+    numbers.push(count_of(second))?;
     Ok(numbers)
 }
 
