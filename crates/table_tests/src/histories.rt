@@ -2,77 +2,12 @@
 ghost use Rattle.std.specs.Prelude.{◌<◌, IfSome};
 ghost use Rattle.command_decode.specs.fleet_rows.Lifetime.{IsReportCount};
 
-use crate::plain::{Applied, Event};
-use crate::plain_rows::{payload_of, plain_rows};
-use crate::play::{Fleet, kinds_of};
-use command_decode::fleet_rows::{Entity, Kind};
+use crate::play::Fleet;
+use command_decode::fleet_rows::Entity;
+use plain_tables::{Event, Turns, payload_of, plain_rows};
 use stamp_time::Moment;
 use std::alloc::{AllocError, Global};
 use std::process::Abort;
-
-// 2024-05-01T10:00:00Z
-const TEN: i64 = 1_714_557_600_000_000_000;
-
-const DAY: i64 = 86_400_000_000_000;
-
-/// A sequence of numbers by Knuth's linear congruences.
-#[derive(Drop)]
-struct Numbers {
-    state: u64,
-}
-
-impl Numbers {
-    // Below n.
-    fn below(&mut self, n: u64) -> u64
-        requires { 0 < n }
-        ensures { result < n }
-    {
-        self.state = self
-            .state
-            .wrapping_mul(6_364_136_223_846_793_005)
-            .wrapping_add(1_442_695_040_888_963_407);
-        (self.state >> 33) % n
-    }
-
-    // A day, at most so many days behind that one.
-    fn day(&mut self, from: u64, span: u64) -> i64
-        requires from { from < 1000 }
-        requires span { 0 < span }
-        requires small { span < 1000 }
-    {
-        TEN + (from + self.below(span)) as i64 * DAY
-    }
-
-    fn kind(&mut self) -> Kind {
-        match self.below(12) {
-            0..=2 => Kind::Facts,
-            3..=4 => Kind::Catalog,
-            5..=8 => Kind::Report,
-            9..=10 => Kind::Deactivate,
-            _ => Kind::Expiration,
-        }
-    }
-
-    // Three nodes of five send at a time, and each day has five turns. Of four receipts in a row the last comes first.
-    fn event(&mut self, turn: u64) -> Event
-        requires { turn < 1000 }
-    {
-        let today = turn / 5;
-        if self.below(10) == 0 {
-            let word = ["expire", "purge", "retain", "sweep"][self.below(4) as usize];
-            return Event::Swept(kinds_of(word), self.day(today, 20));
-        }
-        let node = (self.below(3) + turn / 60) % 5;
-        Event::Applied(Applied {
-            receipt: (turn ^ 3).saturating_add(1),
-            kind: self.kind(),
-            node: node as usize,
-            stamp: self.day(today, 6),
-            received: TEN + turn as i64,
-            form: self.below(4) as usize,
-        })
-    }
-}
 
 fn take(alloc: Global, fleet: &mut Fleet, event: &Event) -> Result<bool, AllocError> {
     match event {
@@ -111,9 +46,9 @@ fn run(rt: &impl Abort, alloc: Global, seed: u64, limit: Option<u32>) -> Result<
 {
     let mut fleet = Fleet::new(alloc, limit);
     let mut events = Vec::new(alloc);
-    let mut numbers = Numbers { state: seed };
+    let mut turns = Turns::new(seed);
     for turn in 0..300 {
-        let event = numbers.event(turn);
+        let event = turns.event(turn);
         let mut is_so = take(alloc, &mut fleet, &event)?;
         events.push(event)?;
         if turn % 20 == 9 {

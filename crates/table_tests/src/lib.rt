@@ -17,10 +17,6 @@ mod lookups;
 #[cfg(test)]
 mod packed;
 #[cfg(test)]
-mod plain;
-#[cfg(test)]
-mod plain_rows;
-#[cfg(test)]
 mod play;
 #[cfg(test)]
 mod ranks;

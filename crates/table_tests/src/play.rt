@@ -5,11 +5,10 @@ ghost use Rattle.command_decode.specs.history_spec.Lawful.{IsChange};
 
 use crate::lookups::agree;
 use command_decode::decode;
-use command_decode::fleet_rows::{
-    Cell, Change, Command, Entity, Kind, Kinds, Row, StoreList, Ttls,
-};
-use command_decode::json_tree::{Bytes, Text, append_compact};
-use stamp_time::{Moment, read_stamp, write_full};
+use command_decode::fleet_rows::{Change, Command, Entity, Kind, Kinds, StoreList, Ttls};
+use command_decode::json_tree::{Bytes, Text};
+use plain_tables::{kinds_of, put_moment, put_row, put_told, put_words};
+use stamp_time::{Moment, read_stamp};
 use std::alloc::{AllocError, Global};
 use std::marker::Brand;
 use std::process::Abort;
@@ -67,16 +66,6 @@ fn kind_of(word: &str) -> Option<Kind> {
     None
 }
 
-/// What a sweep does: it expires, purges and drops reports, or one of these.
-pub(crate) fn kinds_of(word: &str) -> Kinds {
-    let is_all = word == "sweep";
-    Kinds {
-        expire: is_all || word == "expire",
-        purge: is_all || word == "purge",
-        reports: is_all || word == "retain",
-    }
-}
-
 // The version that is taken.
 fn version(kind: Kind) -> u32 {
     match kind {
@@ -105,49 +94,6 @@ pub(crate) fn change_of(alloc: Global, kind: Kind, payload: &[u8]) -> Option<Cha
         payload,
     };
     decode(alloc, &command).ok()
-}
-
-/// Appends the texts, one after the other.
-pub(crate) fn put_words(out: &mut Vec<u8>, words: &[&str]) -> Result<(), AllocError> {
-    for word in words {
-        out.extend_from_slice(word.as_bytes())?;
-    }
-    Ok(())
-}
-
-/// Appends the stamp of nine digits.
-#[tactic(auto, using(stamp_time::proofs::RangeLaws::stamp_is_printable))]
-pub(crate) fn put_moment(out: &mut Vec<u8>, moment: Moment) -> Result<(), AllocError> {
-    if moment.has_stamp() {
-        out.extend_from_slice(&write_full(moment))
-    } else {
-        out.extend_from_slice(b"no stamp")
-    }
-}
-
-fn put_told(out: &mut Vec<u8>, moment: Option<Moment>) -> Result<(), AllocError> {
-    match moment {
-        Some(moment) => put_moment(out, moment),
-        None => out.extend_from_slice(b"null"),
-    }
-}
-
-fn put_cell(out: &mut Vec<u8>, cell: &Cell) -> Result<(), AllocError> {
-    match cell {
-        Cell::Stamp(moment) => put_moment(out, *moment),
-        Cell::Plain(json) => append_compact(out, json),
-    }
-}
-
-// The cells of a row, each behind the first behind a space, and a line end.
-fn put_row(out: &mut Vec<u8>, row: &Row) -> Result<(), AllocError> {
-    for (place, cell) in row.cells.as_slice().iter().enumerate() {
-        if place > 0 {
-            out.push(b' ')?;
-        }
-        put_cell(out, cell)?;
-    }
-    out.extend_from_slice(b"\n")
 }
 
 // The rows of an entity from this one on and before that one.

@@ -2,35 +2,18 @@
 ghost use Rattle.std.specs.Prelude.{◌≡◌, ◌<◌, ◌+◌, length, OnOk};
 ghost use Rattle.fleet_hub.specs.table_machine.Rows.{table_rows};
 
-use fleet_rows::{Cell, Entity, Row};
+use fleet_rows::{Entity, Row};
 use fleet_tables::{Steps, Tables};
-use json_tree::append_compact;
-use stamp_time::{Moment, write_full};
+use plain_tables::put_cell;
 use std::alloc::{AllocError, Global};
 use std::marker::Brand;
 use std::sync::ledger::{Blank, Ledger};
-
-// A moment that no stamp names would be shown as nothing.
-#[tactic(auto, using(stamp_time::proofs::RangeLaws::stamp_is_printable))]
-fn append_moment(out: &mut Vec<u8>, moment: Moment) -> Result<(), AllocError> {
-    if !moment.has_stamp() {
-        return Ok(());
-    }
-    out.extend_from_slice(&write_full(moment))
-}
-
-fn append_cell(out: &mut Vec<u8>, cell: &Cell) -> Result<(), AllocError> {
-    match cell {
-        Cell::Stamp(moment) => append_moment(out, *moment),
-        Cell::Plain(json) => append_compact(out, json),
-    }
-}
 
 // The cells of a row, each behind a blank.
 fn append_row(out: &mut Vec<u8>, row: &Row) -> Result<(), AllocError> {
     for cell in row.cells.as_slice() {
         out.push(b' ')?;
-        append_cell(out, cell)?;
+        put_cell(out, cell)?;
     }
     Ok(())
 }

@@ -1,9 +1,9 @@
 //! The payloads of generated commands, and the texts of the rows that they show by the plain program.
-use crate::plain::{
+use crate::events::{
     Applied, Event, deactivated, expired, greatest_sweeps, kept_reports, life, newest,
 };
-use crate::play::{put_moment, put_words};
-use command_decode::fleet_rows::{Entity, Kind, sha1_hex};
+use crate::texts::{put_moment, put_words};
+use fleet_rows::{Entity, Kind, sha1_hex};
 use stamp_time::Moment;
 use std::alloc::{AllocError, Global};
 
@@ -109,7 +109,7 @@ fn put_filled(out: &mut Vec<u8>, text: &str, x: &Applied, hash: &str) -> Result<
 }
 
 /// The payload of a command.
-pub(crate) fn payload_of(alloc: Global, x: &Applied) -> Result<Vec<u8>, AllocError> {
+pub fn payload_of(alloc: Global, x: &Applied) -> Result<Vec<u8>, AllocError> {
     let text = match x.kind {
         Kind::Facts => FACTS,
         Kind::Catalog => CATALOG,
@@ -214,7 +214,7 @@ fn put_rows(
 }
 
 /// The rows of an entity after these events, where at most so many reports of a node are kept.
-pub(crate) fn plain_rows(
+pub fn plain_rows(
     alloc: Global,
     entity: Entity,
     events: &[Event],

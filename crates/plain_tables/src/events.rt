@@ -1,12 +1,12 @@
 //! What the definitions of histories say of a list of events, as a plain and slow program.
-use command_decode::fleet_rows::{Kind, Kinds};
+use fleet_rows::{Kind, Kinds};
 use std::alloc::{AllocError, Global};
 
 const DAY: i64 = 86_400_000_000_000;
 
 /// A command that was applied. Moments are nanoseconds since 1970.
 #[derive(Clone, Copy)]
-pub(crate) struct Applied {
+pub struct Applied {
     pub receipt: u64,
     pub kind: Kind,
     pub node: usize,
@@ -18,7 +18,7 @@ pub(crate) struct Applied {
 
 /// Events, the first first.
 #[derive(Clone, Copy)]
-pub(crate) enum Event {
+pub enum Event {
     Applied(Applied),
     Swept(Kinds, i64),
 }
