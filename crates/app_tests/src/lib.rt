@@ -4,8 +4,6 @@
 #![tactic(auto)]
 
 #[cfg(test)]
-mod disks;
-#[cfg(test)]
 mod ends;
 #[cfg(test)]
 mod faults;
@@ -15,8 +13,6 @@ mod files;
 mod fleets;
 #[cfg(test)]
 mod gate;
-#[cfg(test)]
-mod items;
 #[cfg(test)]
 mod large;
 #[cfg(test)]
@@ -30,20 +26,10 @@ mod rounds;
 #[cfg(test)]
 mod served;
 #[cfg(test)]
-mod settings;
-#[cfg(test)]
 mod shown;
-#[cfg(test)]
-mod source;
 #[cfg(test)]
 mod statuses;
 #[cfg(test)]
 mod stops;
-#[cfg(test)]
-mod texts;
-#[cfg(test)]
-mod told;
-#[cfg(test)]
-mod words;
 #[cfg(test)]
 mod workers;

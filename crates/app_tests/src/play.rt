@@ -8,7 +8,7 @@
 //! | `put A TEXT` | appends these bytes to file A, which is 0 or 1 of the queue, 2 or 3 of the store |
 //! | `with A=B ..` | sets numbers of the next command, below |
 //! | `crash A` | puts in the place of the files what a crash leaves of them by the choice A; choice 0 leaves what a read gives |
-//! | `facts A B TEXT` and other words of `items.rt` | appends an item to the spool of the next command |
+//! | `facts A B TEXT` and other words of `items.rt` in `test_support` | appends an item to the spool of the next command |
 //! | `bytes TEXT`, `keep A` | appends bytes to it, or keeps its first A bytes |
 //! | `piped` | appends to it what the last command printed |
 //! | `middle A TEXT`, `nodes A B TEXT` | makes a large part of payloads, and appends the items B of A nodes |
@@ -35,251 +35,231 @@
 //! Numbers: `disk`, `first`, `count` and `stop` of the disks that are made for the next command (all disks where no disk is named);
 //! `spool`, `out`, `errors` and `front`, the call that fails; `piece`, how many bytes of the spool come at once; `wanted` and `turns`
 //! of the gate; `wide`, how many bytes the query's text is filled up to; `start`, why no run begins.
-use crate::disks::Stored;
-use crate::settings::Given;
-use crate::texts::parted;
-use crate::told::Told;
-use crate::words::{query_of, words_of};
+use crate::gate::FullGate;
 use fleet_app::{Ended, Exit, StartFault, run_busy, run_program};
 use fleet_ports::Disks;
+use front_memory::MemoryFront;
 use json_tree::Text;
-use pattern_memory::MemoryPatterns;
+use pattern_memory::pattern_port::Patterns;
+use pattern_memory::{MemoryPatterns, Note};
 use pattern_regex::RegexPatterns;
-use port_memory::FuseDisk;
+use port_memory::{FuseDisk, MemorySink};
 use std::alloc::{AllocError, Global};
-use std::process::ExitCode;
 use std::sync::Wait;
 use std::thread::Threads;
+use test_support::{Given, Pieces, Script, Told, code_of, numbers, parted, query_of, words_of};
 
-/// The words of lines that do nothing.
-const QUIET: [&str; 4] = ["", "each", "outcome", "case"];
-
-/// How far a script is.
+/// What a command reads and writes, beside its disks.
 #[derive(Drop)]
-pub(crate) struct Play {
-    stored: Stored,
-    given: Given,
-    told: Told,
+struct Streams {
+    spool: Pieces,
+    out: MemorySink,
+    errors: MemorySink,
+    front: MemoryFront,
 }
 
-impl Play {
-    pub(crate) fn new(alloc: Global) -> Play {
-        Play {
-            stored: Stored::new(alloc),
-            given: Given::new(alloc),
-            told: Told::new(alloc),
-        }
-    }
-
-    // How the next command begins.
-    fn start<'a>(
-        &mut self,
-        alloc: Global,
-        words: &'a [Text],
-    ) -> Result<(&'a [Text], Disks<FuseDisk>), StartFault> {
-        match self.given.number(" start=", 0) {
-            0 => Ok((words, self.stored.take_disks(alloc, &self.given))),
-            1 => Err(StartFault::NotUtf8),
-            2 => Err(StartFault::Memory),
-            3 => Err(StartFault::QueueFile),
-            _ => Err(StartFault::StoreFile),
-        }
-    }
-
-    // Runs the words.
-    fn run<R: Threads + Wait + Sync>(
-        &mut self,
-        rt: &R,
-        alloc: Global,
-        words: &[Text],
-    ) -> Result<(), AllocError> {
-        let start = self.start(alloc, words);
-        let mut spool = self.given.take_spool(alloc);
-        let mut out = self.given.sink(alloc, " out=");
-        let mut errors = self.given.sink(alloc, " errors=");
-        let mut front = self.given.take_front(alloc);
-        let mut patterns = RegexPatterns::new(alloc);
-        let Exit { code, disks } = run_program(
-            rt,
-            alloc,
-            start,
-            &mut spool,
-            &mut out,
-            &mut errors,
-            &mut front,
-            &mut patterns,
-        );
-        self.stored.keep_disks(disks);
-        let code = code_of(code);
-        let kept = self.told.keep(code, out.held(), errors.held(), &front);
-        drop(patterns);
-        drop(front);
-        drop(errors);
-        drop(out);
-        drop(spool);
-        kept
-    }
-
-    // Runs the words, with a reader of patterns that notes each text that it tries.
-    fn run_noted<R: Threads + Wait + Sync>(
-        &mut self,
-        rt: &R,
-        alloc: Global,
-        words: &[Text],
-    ) -> Result<(), AllocError> {
-        let start = self.start(alloc, words);
-        let mut spool = self.given.take_spool(alloc);
-        let mut out = self.given.sink(alloc, " out=");
-        let mut errors = self.given.sink(alloc, " errors=");
-        let mut front = self.given.take_front(alloc);
-        let mut patterns = MemoryPatterns::new(alloc);
-        let Exit { code, disks } = run_program(
-            rt,
-            alloc,
-            start,
-            &mut spool,
-            &mut out,
-            &mut errors,
-            &mut front,
-            &mut patterns,
-        );
-        self.stored.keep_disks(disks);
-        self.told.keep_tries(&patterns);
-        let code = code_of(code);
-        let kept = self.told.keep(code, out.held(), errors.held(), &front);
-        drop(patterns);
-        drop(front);
-        drop(errors);
-        drop(out);
-        drop(spool);
-        kept
-    }
-
-    // Runs the words of a command that may wait, at a gate.
-    fn run_at_gate<R: Threads + Wait + Sync>(
-        &mut self,
-        rt: &R,
-        alloc: Global,
-        words: &[Text],
-    ) -> Result<(), AllocError> {
-        let disks = self.stored.take_disks(alloc, &self.given);
-        let mut spool = self.given.take_spool(alloc);
-        let mut out = self.given.sink(alloc, " out=");
-        let mut front = self.given.take_front(alloc);
-        let mut patterns = RegexPatterns::new(alloc);
-        let gate = self.given.gate();
-        let Ended { status, disks } = run_busy(
-            rt,
-            alloc,
-            words,
-            &mut spool,
-            &mut out,
-            disks,
-            &mut front,
-            &mut patterns,
-            &gate,
-        );
-        self.stored.keep_disks(Some(disks));
-        self.told.keep_early(gate.early());
-        let kept = self.told.keep(status.code(), out.held(), b"", &front);
-        drop(status);
-        drop(patterns);
-        drop(front);
-        drop(out);
-        drop(spool);
-        kept
-    }
-
-    // Runs the command that a line names, and tells whether it is as the line says; none for other lines.
-    fn command<R: Threads + Wait + Sync>(
-        &mut self,
-        rt: &R,
-        alloc: Global,
-        word: &str,
-        text: &str,
-    ) -> Result<Option<bool>, AllocError> {
-        let words = match word {
-            "ask" => query_of(alloc, text, self.given.number(" wide=", 0))?,
-            "do" | "try" | "usage" | "gate" | "note" => words_of(alloc, text)?,
-            _ => return Ok(None),
-        };
-        let ran = if word == "gate" {
-            self.run_at_gate(rt, alloc, words.as_slice())
-        } else if word == "note" {
-            self.run_noted(rt, alloc, words.as_slice())
-        } else if word != "try" || self.told.goes_on() {
-            self.run(rt, alloc, words.as_slice())
-        } else {
-            Ok(())
-        };
-        drop(words);
-        ran?;
-        self.given.clear();
-        Ok(Some(word != "usage" || self.told.has_ended("2 usage")))
-    }
-
-    // Does what a line says that is no command, and tells whether it is as the line says.
-    fn note(&mut self, alloc: Global, word: &str, text: &str) -> Result<bool, AllocError> {
-        if word == "piped" {
-            let spool = &mut self.given.spool.bytes;
-            spool.extend_from_slice(self.told.printed.as_slice())?;
-            return Ok(true);
-        }
-        let has_failed = self.stored.have_failed();
-        if let Some(is_so) = self.told.step(has_failed, word, text)? {
-            return Ok(is_so);
-        }
-        if let Some(is_so) = self.stored.step(alloc, word, text)? {
-            return Ok(is_so);
-        }
-        self.given.step(alloc, word, text)
-    }
-
-    // Does what the line says, and tells whether it is as the line says.
-    fn step<R: Threads + Wait + Sync>(
-        &mut self,
-        rt: &R,
-        alloc: Global,
-        line: &str,
-    ) -> Result<bool, AllocError> {
-        let (word, text) = parted(line);
-        if QUIET.contains(&word) {
-            return Ok(true);
-        }
-        match self.command(rt, alloc, word, text)? {
-            Some(is_so) => Ok(is_so),
-            None => self.note(alloc, word, text),
-        }
-    }
-
-    /// Does what the lines of the scenario say, up to one that isn't so, which is told.
-    pub(crate) fn play<R: Threads + Wait + Sync>(
-        &mut self,
-        rt: &R,
-        alloc: Global,
-        scenario: &str,
-        wrong: &mut String,
-    ) -> Result<(), AllocError> {
-        for line in scenario.split('\n') {
-            if !self.step(rt, alloc, line)? {
-                return self.told.tell(scenario, line, wrong);
-            }
-        }
-        Ok(())
-    }
-
-    /// How the commands ended that a line `log` follows.
-    pub(crate) fn log(&self) -> &str {
-        self.told.log.as_str()
+// The streams of the next command.
+fn streams(alloc: Global, given: &mut Given) -> Streams {
+    let links = given.take_links(alloc);
+    let fails = numbers(alloc, given.number(" front=", 0), 1);
+    Streams {
+        spool: given.take_spool(alloc),
+        out: given.sink(alloc, " out="),
+        errors: given.sink(alloc, " errors="),
+        front: MemoryFront::new(alloc, links, fails),
     }
 }
 
-// The number of the exit status.
-fn code_of(code: ExitCode) -> u8 {
-    for number in 0..100 {
-        if code == ExitCode::from(number) {
-            return number;
+// How the next command begins.
+fn start<'a>(
+    alloc: Global,
+    script: &mut Script,
+    words: &'a [Text],
+) -> Result<(&'a [Text], Disks<FuseDisk>), StartFault> {
+    match script.given.number(" start=", 0) {
+        0 => Ok((words, script.stored.take_disks(alloc, &script.given))),
+        1 => Err(StartFault::NotUtf8),
+        2 => Err(StartFault::Memory),
+        3 => Err(StartFault::QueueFile),
+        _ => Err(StartFault::StoreFile),
+    }
+}
+
+// Keeps what a command came to, and what it served.
+fn keep(told: &mut Told, code: u8, streams: &Streams) -> Result<(), AllocError> {
+    told.keep(code, streams.out.held(), streams.errors.held())?;
+    told.keep_port(streams.front.port())?;
+    for link in streams.front.ended() {
+        told.keep_answer(link.outgoing.held())?;
+    }
+    Ok(())
+}
+
+// Runs the words with this reader of patterns.
+fn run<P: Patterns + Drop, R: Threads + Wait + Sync>(
+    rt: &R,
+    alloc: Global,
+    script: &mut Script,
+    words: &[Text],
+    patterns: &mut P,
+) -> Result<(), AllocError> {
+    let start = start(alloc, script, words);
+    let mut streams = streams(alloc, &mut script.given);
+    let Exit { code, disks } = run_program(
+        rt,
+        alloc,
+        start,
+        &mut streams.spool,
+        &mut streams.out,
+        &mut streams.errors,
+        &mut streams.front,
+        patterns,
+    );
+    script.stored.keep_disks(disks);
+    let kept = keep(&mut script.told, code_of(code), &streams);
+    drop(streams);
+    kept
+}
+
+// Runs the words.
+fn run_plainly<R: Threads + Wait + Sync>(
+    rt: &R,
+    alloc: Global,
+    script: &mut Script,
+    words: &[Text],
+) -> Result<(), AllocError> {
+    let mut patterns = RegexPatterns::new(alloc);
+    let ran = run(rt, alloc, script, words, &mut patterns);
+    drop(patterns);
+    ran
+}
+
+// How many texts were tried. Where memory was short, that is more than any line says.
+fn tries_of(patterns: &MemoryPatterns) -> u64 {
+    let mut count = 0_u64;
+    for note in patterns.notes() {
+        if matches!(note, Note::Tried(_, _)) {
+            count = count.saturating_add(1);
         }
     }
-    100
+    if patterns.lost() == 0 {
+        count
+    } else {
+        u64::MAX
+    }
+}
+
+// Runs the words, with a reader of patterns that notes each text that it tries.
+fn run_noted<R: Threads + Wait + Sync>(
+    rt: &R,
+    alloc: Global,
+    script: &mut Script,
+    words: &[Text],
+) -> Result<(), AllocError> {
+    let mut patterns = MemoryPatterns::new(alloc);
+    let ran = run(rt, alloc, script, words, &mut patterns);
+    script.told.keep_tries(tries_of(&patterns));
+    drop(patterns);
+    ran
+}
+
+// The gate of the next command.
+fn gate_of(given: &Given) -> FullGate {
+    FullGate::new(given.number(" wanted=", 0), given.number(" turns=", 0))
+}
+
+// Runs the words of a command that may wait, at a gate.
+fn run_at_gate<R: Threads + Wait + Sync>(
+    rt: &R,
+    alloc: Global,
+    script: &mut Script,
+    words: &[Text],
+) -> Result<(), AllocError> {
+    let disks = script.stored.take_disks(alloc, &script.given);
+    let mut streams = streams(alloc, &mut script.given);
+    let mut patterns = RegexPatterns::new(alloc);
+    let gate = gate_of(&script.given);
+    let Ended { status, disks } = run_busy(
+        rt,
+        alloc,
+        words,
+        &mut streams.spool,
+        &mut streams.out,
+        disks,
+        &mut streams.front,
+        &mut patterns,
+        &gate,
+    );
+    script.stored.keep_disks(Some(disks));
+    script.told.keep_early(gate.early());
+    let kept = keep(&mut script.told, status.code(), &streams);
+    drop(status);
+    drop(patterns);
+    drop(streams);
+    kept
+}
+
+// Runs the words as the word in front of them says.
+fn run_as<R: Threads + Wait + Sync>(
+    rt: &R,
+    alloc: Global,
+    script: &mut Script,
+    word: &str,
+    words: &[Text],
+) -> Result<(), AllocError> {
+    match word {
+        "gate" => run_at_gate(rt, alloc, script, words),
+        "note" => run_noted(rt, alloc, script, words),
+        "try" if !script.told.goes_on() => Ok(()),
+        _ => run_plainly(rt, alloc, script, words),
+    }
+}
+
+// The words of the command that a line names; none for other lines.
+fn command_of(
+    alloc: Global,
+    given: &Given,
+    word: &str,
+    text: &str,
+) -> Result<Option<Vec<Text>>, AllocError> {
+    match word {
+        "ask" => Ok(Some(query_of(alloc, text, given.number(" wide=", 0))?)),
+        "do" | "try" | "usage" | "gate" | "note" => Ok(Some(words_of(alloc, text)?)),
+        _ => Ok(None),
+    }
+}
+
+// Does what the line says, and tells whether it is as the line says.
+fn step<R: Threads + Wait + Sync>(
+    rt: &R,
+    alloc: Global,
+    script: &mut Script,
+    line: &str,
+) -> Result<bool, AllocError> {
+    let (word, text) = parted(line, " ");
+    match command_of(alloc, &script.given, word, text)? {
+        Some(words) => {
+            let ran = run_as(rt, alloc, script, word, words.as_slice());
+            drop(words);
+            ran?;
+            Ok(script.is_over(word))
+        }
+        None => script.note(alloc, word, text),
+    }
+}
+
+/// Does what the lines of the scenario say, up to one that isn't so, which is told.
+pub(crate) fn play<R: Threads + Wait + Sync>(
+    rt: &R,
+    alloc: Global,
+    script: &mut Script,
+    scenario: &str,
+    wrong: &mut String,
+) -> Result<(), AllocError> {
+    for line in scenario.split('\n') {
+        if !step(rt, alloc, script, line)? {
+            return script.told.tell(scenario, line, wrong);
+        }
+    }
+    Ok(())
 }

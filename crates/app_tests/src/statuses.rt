@@ -1,8 +1,8 @@
 //! The statuses of commands: their codes and their lines.
-use crate::texts::{number_of, parted};
 use fleet_app::{FileName, Status};
 use std::alloc::Global;
 use std::process::Abort;
+use test_support::{number_of, parted};
 
 /// The code and the line of each status of [`status_at`].
 const LINES: &str =
@@ -48,7 +48,7 @@ fn is_told(alloc: Global, status: Status, code: &str, text: &str) -> bool {
 
 fn each_is_told(rt: &impl Abort, alloc: Global) {
     for (at, line) in LINES.split(';').enumerate() {
-        let (code, text) = parted(line);
+        let (code, text) = parted(line, " ");
         assert!(rt; is_told(alloc, status_at(at), code, text), "{line}");
     }
 }
