@@ -214,6 +214,16 @@ fn is_written(end: LinkEnd, written: &[u8], case: &Case) -> bool {
     is_so && number == case.exchange.given.number(" end=", 0)
 }
 
+// Whether a link that was served so is as the lines of the case say.
+fn is_so(
+    case: &Case,
+    end: Result<LinkEnd, Wrong>,
+    written: &[u8],
+    are_taken: Result<bool, AllocError>,
+) -> Result<bool, Wrong> {
+    Ok(are_taken? && is_written(end?, written, case))
+}
+
 // Whether the link of the case is served as its lines say, by this inbox.
 fn is_served(alloc: Global, inbox: &mut OneInbox, case: &mut Case) -> Result<bool, Wrong> {
     let room = case.exchange.given.number(" room=", 1_000_000) as usize;
@@ -223,9 +233,29 @@ fn is_served(alloc: Global, inbox: &mut OneInbox, case: &mut Case) -> Result<boo
         outgoing: Room::new(alloc, room),
     };
     let end = serve_as(alloc, inbox, &mut link, most);
-    let taken = are_taken(alloc, inbox.taken(), case.takes.as_slice());
-    let is_so = is_written(end?, link.outgoing.written(), case);
-    Ok(taken? && is_so)
+    let are_taken = are_taken(alloc, inbox.taken(), case.takes.as_slice());
+    let told = is_so(case, end, link.outgoing.written(), are_taken);
+    drop(link);
+    told
+}
+
+// The same by an inbox over this fleet.
+fn is_served_over(alloc: Global, fleet: &str, case: &mut Case) -> Result<bool, Wrong> {
+    let tables = tables_of(alloc, fleet)?;
+    let mut inbox = OneInbox::new(alloc, tables, case.says);
+    let told = is_served(alloc, &mut inbox, case);
+    drop(inbox);
+    told
+}
+
+// Does what the lines say, and tells whether each says something.
+fn read_lines(alloc: Global, case: &mut Case, lines: &str) -> Result<bool, AllocError> {
+    for line in lines.split('\n') {
+        if !step(alloc, case, line)? {
+            return Ok(false);
+        }
+    }
+    Ok(true)
 }
 
 // Whether the case is so over this fleet.
@@ -236,13 +266,10 @@ fn play_lines(alloc: Global, fleet: &str, lines: &str) -> Result<bool, Wrong> {
         fields: Vec::new(alloc),
         takes: Vec::new(alloc),
     };
-    for line in lines.split('\n') {
-        if !step(alloc, &mut case, line)? {
-            return Ok(false);
-        }
-    }
-    let mut inbox = OneInbox::new(alloc, tables_of(alloc, fleet)?, case.says);
-    is_served(alloc, &mut inbox, &mut case)
+    let read = read_lines(alloc, &mut case, lines);
+    let served = is_served_over(alloc, fleet, &mut case);
+    drop(case);
+    Ok(read? && served?)
 }
 
 // The same for each word that its line `for` names.
