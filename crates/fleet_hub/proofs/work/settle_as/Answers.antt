@@ -1,7 +1,18 @@
-use Rattle.std.proofs.Common.{Some}
+use Rattle.std.proofs.Common.{◌∙◌, Some}
+use Rattle.turn_lock.proofs.Prefixes.{prefix_trans}
 use Rattle.core_drain.specs.core_course.Sight.{Sight, sight}
 use Rattle.fleet_hub.proofs.Ends.{last_later, settle_returns, last_settle}
 use Rattle.fleet_hub.proofs.work.settle_as.Goals as goal
+
+pub returns-in-Memory-clause-pass : goal.returns-in-Memory-clause-pass
+returns-in-Memory-clause-pass g c =
+    let settled = c.settle.ensures.pass in
+    let given = c.give_back.ensures.pass in (
+      given.0 ∙ settled.0,
+      given.1 ∙ settled.1,
+      prefix_trans c.args.pass.now.seen c.settle.new.pass.seen c.give_back.new.pass.seen settled.2 given.2,
+      prefix_trans c.args.pass.now.holds c.settle.new.pass.holds c.give_back.new.pass.holds settled.3 given.3,
+    )
 
 pub returns-in-Memory-clause-ends : goal.returns-in-Memory-clause-ends
 returns-in-Memory-clause-ends g c =
