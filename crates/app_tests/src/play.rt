@@ -59,7 +59,7 @@ struct Streams {
 }
 
 // The streams of the next command.
-fn streams(alloc: Global, given: &mut Given) -> Streams {
+fn streams_of(alloc: Global, given: &mut Given) -> Streams {
     let links = given.take_links(alloc);
     let fails = numbers(alloc, given.number(" front=", 0), 1);
     Streams {
@@ -104,7 +104,7 @@ fn run<P: Patterns + Drop, R: Threads + Wait + Sync>(
     patterns: &mut P,
 ) -> Result<(), AllocError> {
     let start = start(alloc, script, words);
-    let mut streams = streams(alloc, &mut script.given);
+    let mut streams = streams_of(alloc, &mut script.given);
     let Exit { code, disks } = run_program(
         rt,
         alloc,
@@ -176,7 +176,7 @@ fn run_at_gate<R: Threads + Wait + Sync>(
     words: &[Text],
 ) -> Result<(), AllocError> {
     let disks = script.stored.take_disks(alloc, &script.given);
-    let mut streams = streams(alloc, &mut script.given);
+    let mut streams = streams_of(alloc, &mut script.given);
     let mut patterns = RegexPatterns::new(alloc);
     let gate = gate_of(&script.given);
     let Ended { status, disks } = run_busy(
@@ -248,6 +248,22 @@ fn step<R: Threads + Wait + Sync>(
     }
 }
 
+// Appends which line isn't so, and how the last command ended and what it printed.
+fn tell(
+    alloc: Global,
+    script: &mut Script,
+    scenario: &str,
+    line: &str,
+    wrong: &mut String,
+) -> Result<(), AllocError> {
+    script.note(alloc, "log", "")?;
+    for text in [scenario, line, script.told.log.as_str()] {
+        wrong.push_str(text)?;
+        wrong.push('\n')?;
+    }
+    Ok(())
+}
+
 /// Does what the lines of the scenario say, up to one that isn't so, which is told.
 pub(crate) fn play<R: Threads + Wait + Sync>(
     rt: &R,
@@ -258,7 +274,7 @@ pub(crate) fn play<R: Threads + Wait + Sync>(
 ) -> Result<(), AllocError> {
     for line in scenario.split('\n') {
         if !step(rt, alloc, script, line)? {
-            return script.told.tell(scenario, line, wrong);
+            return tell(alloc, script, scenario, line, wrong);
         }
     }
     Ok(())
