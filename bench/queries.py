@@ -4,7 +4,7 @@ Usage: queries.py PROGRAM [NODES [FACTS]]
 PROGRAM is the built program, crates/puppetdb_server/out/puppetdb_server. The fleet has so many nodes (200 where nothing is said) with so
 many facts each (100), and a catalog of 40 resources each, which `run 1` takes into files in /dev/shm. Time is the processor's, in the best
 of several calls; that of `discards`, which opens the same files and prints nothing, is taken off. What rows show is computed behind the
-opening, so that counts.
+opening, as far as the query reads it, so that counts.
 """
 import json
 import os

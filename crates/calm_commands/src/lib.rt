@@ -36,6 +36,8 @@
 //!
 //! Costs and limits:
 //! - An opening reads both logs. Lines and rows are built in memory and written at once. Only `line` takes memory for a status.
+//! - [`print_rows`] reads the text once more, and first prepares the entities of which its query would compute the same several
+//!   times. No clause says what is prepared.
 //! - Only tests show that a sweep ends with Done if nothing fails and there is room.
 #![tactic(auto)]
 
@@ -44,6 +46,7 @@ mod discards;
 mod ended;
 mod open;
 mod payload;
+mod preparing;
 mod print;
 mod rows;
 mod status;

@@ -4,6 +4,8 @@ ghost use Rattle.calm_commands.specs.Openings.{disk_sight_of, opening_status, Op
 
 use crate::{Ended, Status};
 use command_core::{Core, LogKeeper, OpenCoreFault, open_core};
+use core_opening::open_state;
+use core_state::CoreState;
 use fleet_ports::{Disk, Disks};
 use std::alloc::Global;
 
@@ -30,6 +32,23 @@ pub fn open_disks<D: Disk + Drop>(
     ensures refused { IfErr result (λ ended. IsUnopened (disk_sight_of D.Disk) disks ended.disks ended.status) }
 {
     match open_core(alloc, disks) {
+        Ok(core) => Ok(core),
+        Err((fault, disks)) => Err(Ended {
+            status: status_of_opening(fault),
+            disks,
+        }),
+    }
+}
+
+/// Opens the parts of a core, likewise. Rows are read off them, and no call changes what they hold.
+pub(crate) fn open_parts<D: Disk + Drop>(
+    alloc: Global,
+    disks: Disks<D>,
+) -> Result<CoreState<D, LogKeeper<D>>, Ended<D>>
+    ensures opened { IfOk result (λ core. OpensTo (disk_sight_of D.Disk) disks core) }
+    ensures refused { IfErr result (λ ended. IsUnopened (disk_sight_of D.Disk) disks ended.disks ended.status) }
+{
+    match open_state(alloc, disks) {
         Ok(core) => Ok(core),
         Err((fault, disks)) => Err(Ended {
             status: status_of_opening(fault),

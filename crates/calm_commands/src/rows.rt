@@ -5,13 +5,17 @@ ghost use Rattle.query_answer.specs.fleet_ports.Counts.{Counts};
 ghost use Rattle.query_answer.specs.fleet_tables.Stands.{Stands};
 ghost use Rattle.query_answer.specs.history_spec.Trace.{Trace};
 ghost use Rattle.query_answer.specs.means_spec.World.{world_of};
+ghost use Rattle.core_opening.specs.Opened.{disks_in};
 ghost use Rattle.calm_commands.specs.Told.{stream};
 ghost use Rattle.calm_commands.specs.Openings.{disk_sight_of};
 ghost use Rattle.query_answer.specs.Told.{told_of};
 ghost use Rattle.calm_commands.specs.Rows.{pattern_sight, fault_status, PrintsText, PrintsRows, IsRowsEnd, IsPatternEnd, AnswersText, IsQueryRun};
 
-use crate::{Ended, Status, open_disks};
-use command_core::{Core, LogKeeper};
+use crate::open::open_parts;
+use crate::preparing::prepare_text;
+use crate::{Ended, Status};
+use command_core::LogKeeper;
+use core_state::CoreState;
 use fleet_ports::{Disk, Disks, Sink, Wrote, write_all};
 use fleet_tables::Tables;
 use pattern_port::Patterns;
@@ -32,23 +36,37 @@ pub fn print_rows<O: Sink + Drop, D: Disk + Drop, P: Patterns + Drop>(
         (pattern_sight (P.says patterns.new) (P.asked patterns.new) (P.refusals patterns.new))
         (stream (O.held out.old) (O.fault_count out.old)) (stream (O.held out.new) (O.fault_count out.new)) disks result.disks result.status }
 {
-    match open_disks(alloc, disks) {
+    match open_parts(alloc, disks) {
         Ok(core) => {
             let mut core = core;
             let status = print_prepared(alloc, &mut core, text, out, patterns);
             Ended {
                 status,
-                disks: core.into_disks(),
+                disks: disks_of(core),
             }
         }
         Err(ended) => ended,
     }
 }
 
+// The four disks of a core, to be given back. Nothing is written.
+fn disks_of<D: Disk + Drop>(core: CoreState<D, LogKeeper<D>>) -> Disks<D>
+    ensures { result ≡ disks_in core }
+{
+    let (queue_a, queue_b) = core.queue.into_disks();
+    let (store_a, store_b) = core.store.into_disks();
+    Disks {
+        queue_a,
+        queue_b,
+        store_a,
+        store_b,
+    }
+}
+
 // Prints the core's answer to the text, after computing what its rows show.
 fn print_prepared<O: Sink + Drop, D: Disk + Drop, P: Patterns + Drop>(
     alloc: Global,
-    core: &mut Core<D, LogKeeper<D>>,
+    core: &mut CoreState<D, LogKeeper<D>>,
     text: &[u8],
     out: &mut O,
     patterns: &mut P,
@@ -64,10 +82,8 @@ fn print_prepared<O: Sink + Drop, D: Disk + Drop, P: Patterns + Drop>(
     ensures write_cause { Counts (O.fault_count out.old) (O.fault_count out.new) (result ≡ Status.WriteFault) }
     ensures pattern_cause { Counts (P.refusals patterns.old) (P.refusals patterns.new) (IsPatternEnd result) }
 {
-    match core.prepare() {
-        Ok(()) => print_answer(alloc, core.tables(), text, out, patterns),
-        Err(_) => Status::Memory,
-    }
+    prepare_text(alloc, &mut core.tables, text);
+    print_answer(alloc, &core.tables, text, out, patterns)
 }
 
 // Prints the tables' answer to the text.

@@ -1,4 +1,4 @@
-use Rattle.std.proofs.Common.{◌∙◌, List, ℕ, ap, sym, subst}
+use Rattle.std.proofs.Common.{◌∙◌, ap, sym, subst}
 use Rattle.query_answer.specs.fleet_ports.declared.disk.Disks.{Disks}
 use Rattle.command_core.specs.core_opening.Opened.{LogCore, disks_in}
 use Rattle.calm_commands.specs.Told.{stream}
@@ -23,7 +23,7 @@ returns-in-Ok g c =
     let out = stream (o.held at.out.now) (o.fault_count at.out.now) in
     let out_after = stream (o.held to.out) (o.fault_count to.out) in
     let run = opened_query w text patterns patterns_after out out_after at.disks answer c.in-Ok.core c.in-Ok.ensures.opened e.ends e.stands e.text e.silent e.same e.write_cause e.pattern_cause in
-    subst (λ (x : Disks g.row.D.Denot). IsQueryRun w text patterns patterns_after out out_after at.disks x answer) (sym (c.into_disks.ensures ∙ ap (λ (k : LogCore g.row.D.Denot). disks_in k) e.core)) run
+    subst (λ (x : Disks g.row.D.Denot). IsQueryRun w text patterns patterns_after out out_after at.disks x answer) (sym (c.disks_of.ensures ∙ ap (λ (k : LogCore g.row.D.Denot). disks_in k) e.core)) run
 
 pub returns-in-Err : goal.returns-in-Err
 returns-in-Err g c =
