@@ -1,5 +1,5 @@
 -- A compaction of a core that was just opened.
-use Rattle.std.proofs.Common.{◌≡◌, ◌∙◌, ◌⊎◌, inl, inr, ⊎_elim, ℕ, ◌+◌, ◌≤◌, List, [], ◌∷◌, ◌++◌, map, arith, refl, sym, ap, subst, IsTrue, Bool, true, false, Option, Some, None}
+use Rattle.std.proofs.Common.{◌≡◌, ◌∙◌, ◌⊎◌, inl, inr, ⊎_elim, ℕ, ◌+◌, ◌≤◌, List, ◌∷◌, ◌++◌, map, arith, refl, sym, ap, subst, IsTrue, Bool, true, false, Option, Some, None}
 use Rattle.query_answer.proofs.of_plain_laws.Booleans.{not_so}
 use Rattle.query_answer.specs.fleet_ports.Counts.{Counts, Rose}
 use Rattle.query_answer.specs.fleet_ports.declared.disk.Disks.{Disks}

@@ -1,5 +1,5 @@
 -- Of the store's two disks one counted a fault where the store did.
-use Rattle.std.proofs.Common.{◌≡◌, ◌⊎◌, inl, inr, ℕ, ◌+◌, ◌-◌, ◌^◌, ◌≤◌, Bool, true, false, arith, refl, nat_lt}
+use Rattle.std.proofs.Common.{◌≡◌, ◌⊎◌, inl, inr, ℕ, ◌+◌, ◌≤◌, Bool, true, false, arith, refl, nat_lt}
 use Rattle.query_answer.specs.fleet_ports.Counts.{Rose}
 use Rattle.command_core.specs.fleet_keeper.Keeper.{IsBounded}
 

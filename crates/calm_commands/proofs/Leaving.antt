@@ -1,5 +1,5 @@
 -- What the disks stand for behind an opening, and what the core does.
-use Rattle.std.proofs.Common.{◌≡◌, ◌∙◌, ⊎_elim, ℕ, ◌≤◌, List, [], ◌∷◌, ◌++◌, refl, sym, ap, subst, Bool, true, false, Some, IsTrue}
+use Rattle.std.proofs.Common.{◌≡◌, ◌∙◌, ⊎_elim, ℕ, ◌≤◌, List, [], ◌∷◌, ◌++◌, refl, sym, ap, subst, Bool, true, false, Some}
 use Rattle.query_answer.proofs.of_plain_laws.Options.{some_is}
 use Rattle.query_answer.specs.fleet_ports.declared.disk.Disks.{Disks}
 use Rattle.query_answer.specs.fleet_rows.declared.settings.Ttls.{Ttls}

@@ -1,5 +1,5 @@
 -- A command that prints what a core holds, or whose opening failed.
-use Rattle.std.proofs.Common.{◌≡◌, ◌∙◌, inl, inr, ℕ, List, ◌∷◌, ◌++◌, arith, refl, sym, ap, subst, IsTrue, Option, Some, None}
+use Rattle.std.proofs.Common.{◌≡◌, ◌∙◌, inl, inr, ℕ, List, ◌∷◌, ◌++◌, arith, refl, sym, ap, subst, IsTrue, Option}
 use Rattle.std.specs.Io.KnownBytes.{Keeps}
 use Rattle.query_answer.specs.fleet_ports.Counts.{Counts}
 use Rattle.query_answer.specs.fleet_ports.declared.disk.Disks.{Disks}

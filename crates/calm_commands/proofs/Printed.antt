@@ -1,9 +1,8 @@
 -- What is printed of an answer.
-use Rattle.std.proofs.Common.{◌≡◌, ℕ, ◌+◌, ◌<◌, List, [], ◌∷◌, ◌++◌, length, take, arith, refl, sym, subst, length-append, Option, Some, None, Result, Ok, Err}
+use Rattle.std.proofs.Common.{◌≡◌, ℕ, ◌+◌, ◌<◌, List, [], ◌∷◌, ◌++◌, length, take, arith, refl, sym, subst, length-append, Option, Some, None, Ok, Err}
 use Rattle.std.proofs.Math.Seq.{take-append-add}
 use Rattle.std.proofs.lemmas.List.{take-append-le}
 use Rattle.std.specs.Io.KnownBytes.{Appends, Keeps}
-use Rattle.query_answer.specs.fleet_ports.Counts.{Counts}
 use Rattle.calm_commands.specs.Told.{AppendsLess}
 use Rattle.calm_commands.specs.declared.status.Status.{Status}
 use Rattle.calm_commands.specs.declared.status.Status.TheVariants as status
@@ -11,7 +10,7 @@ use Rattle.query_answer.specs.means_spec.World.{World}
 use Rattle.query_answer.specs.means_spec.OutRows.{OutRows, lines_text}
 use Rattle.query_answer.specs.pattern_port.Refused.{Asked}
 use Rattle.query_answer.specs.Told.{Told, told_of}
-use Rattle.query_answer.specs.Answers.{MatchAnswer, IsPatternFault, IsPatternRefused}
+use Rattle.query_answer.specs.Answers.{MatchAnswer, IsPatternFault}
 use Rattle.query_answer.specs.declared.answer.AnswerFault.{AnswerFault}
 use Rattle.query_answer.specs.declared.answer.AnswerFault.TheVariants as fault
 use Rattle.query_answer.specs.declared.refusal.QueryRefusal.TheVariants.{TooLong, NotJson, PqlBad, NotQuery, UnknownEntity, UnknownField, BadOperand, BadPattern, SumTooLarge}

@@ -1,12 +1,11 @@
 -- A query over a core that was opened, or whose opening failed.
-use Rattle.std.proofs.Common.{◌≡◌, inl, inr, ℕ, List, ◌∷◌, ◌++◌, arith, refl, ap, subst, IsTrue, Option, Some, None}
+use Rattle.std.proofs.Common.{◌≡◌, inl, inr, ℕ, List, ◌++◌, arith, refl, subst, IsTrue}
 use Rattle.std.specs.Io.KnownBytes.{Keeps}
 use Rattle.query_answer.specs.fleet_ports.Counts.{Counts}
 use Rattle.query_answer.specs.fleet_ports.declared.disk.Disks.{Disks}
 use Rattle.query_answer.specs.fleet_rows.declared.settings.Ttls.{Ttls}
 use Rattle.query_answer.specs.history_spec.Trace.{Trace}
 use Rattle.query_answer.specs.fleet_tables.Stands.{Stands}
-use Rattle.command_core.specs.core_spec.declared.event.Event.TheVariants.{Restart}
 use Rattle.command_core.specs.core_spec.History.{History, trace_of}
 use Rattle.command_core.specs.core_opening.Opened.{LogCore, disks_in}
 use Rattle.query_answer.specs.means_spec.World.{world_of}

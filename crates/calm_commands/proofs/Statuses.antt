@@ -1,5 +1,5 @@
 -- The status of a fault, and the fault of a status.
-use Rattle.std.proofs.Common.{◌≡◌, ◌↔◌, ◌⊎◌, ℕ, refl, Err}
+use Rattle.std.proofs.Common.{◌≡◌, ◌↔◌, ℕ, refl, Err}
 use Rattle.query_answer.specs.fleet_ports.declared.disk.Disks.{Disks}
 use Rattle.command_core.specs.log_pair.Open.{PairCounts}
 use Rattle.command_core.specs.log_spec.PairImage.{PairImage}
@@ -7,7 +7,6 @@ use Rattle.command_core.specs.core_opening.declared.faults.FileName.{FileName}
 use Rattle.command_core.specs.core_opening.declared.faults.OpenCoreFault.{OpenCoreFault}
 use Rattle.command_core.specs.core_opening.declared.faults.OpenCoreFault.TheVariants as fault
 use Rattle.command_core.specs.core_opening.Opened.{MatchOpening, IsCoreDamage, LacksRoom, IsQueueFault, IsStoreFault}
-use Rattle.calm_commands.specs.declared.status.Status.{Status}
 use Rattle.calm_commands.specs.declared.status.Status.TheVariants as status
 use Rattle.calm_commands.specs.Openings.{opening_status, IsOpeningEnd, IsDamagedEnd, IsSpentEnd}
 use Rattle.calm_commands.proofs.Leaving.{whole_where_room_lacks}

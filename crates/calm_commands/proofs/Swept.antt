@@ -1,5 +1,5 @@
 -- A sweep over a core that was just opened.
-use Rattle.std.proofs.Common.{◌≡◌, ◌∙◌, ◌↔◌, ◌⊎◌, inl, inr, ⊎_elim, ℕ, ℤ, suc, ◌+◌, ◌-◌, ◌^◌, ◌≤◌, ◌<◌, List, [], ◌∷◌, ◌++◌, length, length-append, arith, refl, sym, ap, subst, IsTrue, Bool, true, false, Option, nat_lt}
+use Rattle.std.proofs.Common.{◌≡◌, ◌∙◌, ◌⊎◌, inl, inr, ⊎_elim, ℕ, ℤ, ◌≤◌, List, [], ◌∷◌, ◌++◌, length, length-append, arith, refl, sym, ap, subst, Bool, true, false, Option}
 use Rattle.query_answer.specs.fleet_ports.Counts.{Counts}
 use Rattle.query_answer.specs.fleet_ports.declared.disk.Disks.{Disks}
 use Rattle.query_answer.specs.fleet_rows.declared.settings.Kinds.{Kinds}

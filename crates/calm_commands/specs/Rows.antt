@@ -1,5 +1,5 @@
 -- What a query does to the disks and to the pattern reader, and what it prints.
-use Rattle.std.specs.Prelude.{◌≡◌, ◌≢◌, ◌⊎◌, ℕ, List, [], ◌∷◌, ◌++◌, Bool, Option, Result, Ok, Err}
+use Rattle.std.specs.Prelude.{◌≡◌, ◌≢◌, ◌⊎◌, ℕ, List, [], ◌∷◌, ◌++◌, Bool, Option, Ok, Err}
 use Rattle.std.specs.Io.KnownBytes.{Appends, Keeps}
 use Rattle.query_answer.specs.fleet_ports.Counts.{Counts}
 use Rattle.query_answer.specs.fleet_ports.declared.disk.Disks.{Disks}
@@ -12,7 +12,6 @@ use Rattle.query_answer.specs.Told.{Told, told_of}
 use Rattle.query_answer.specs.Answers.{MatchAnswer, IsPatternFault}
 use Rattle.query_answer.specs.declared.answer.AnswerFault.{AnswerFault}
 use Rattle.query_answer.specs.declared.answer.AnswerFault.TheVariants as fault
-use Rattle.query_answer.specs.declared.refusal.QueryRefusal.{QueryRefusal}
 use Rattle.query_answer.specs.declared.refusal.QueryRefusal.TheVariants.{BadPattern, SumTooLarge}
 use Rattle.calm_commands.specs.declared.status.Status.{Status}
 use Rattle.calm_commands.specs.declared.status.Status.TheVariants as status

@@ -1,5 +1,5 @@
 use Rattle.std.proofs.Common.{◌≡◌, sym, ap, subst}
-use Rattle.command_core.specs.core_opening.Opened.{LogCoreStands, disks_in, found_queue, found_store}
+use Rattle.command_core.specs.core_opening.Opened.{LogCoreStands, found_queue, found_store}
 use Rattle.command_core.proofs.of_core_opening.Opens.{damage_of}
 use Rattle.calm_commands.specs.declared.status.Status.{Status}
 use Rattle.calm_commands.specs.Openings.{disk_sight, queue_files, store_files, opening_status, ForEachHistory, IsUnopened}

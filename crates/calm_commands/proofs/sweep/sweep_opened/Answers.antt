@@ -1,10 +1,9 @@
-use Rattle.std.proofs.Common.{◌≡◌, ◌∙◌, sym, subst, Bool, true, false}
+use Rattle.std.proofs.Common.{sym, subst}
 use Rattle.query_answer.proofs.of_plain_laws.Booleans.{never}
 use Rattle.command_core.specs.core_state.Seen.{down_of}
 use Rattle.command_core.specs.log_pair.Pair.{is_down_of}
 use Rattle.command_core.specs.fleet_keeper.Keeper.{pair_of}
 use Rattle.query_answer.specs.fleet_ports.declared.disk.Disks.{Disks}
-use Rattle.command_core.specs.core_opening.Opened.{disks_in}
 use Rattle.calm_commands.specs.declared.status.Status.{Status}
 use Rattle.calm_commands.specs.Openings.{disk_sight}
 use Rattle.calm_commands.specs.Calm.{IsSweepRun}
