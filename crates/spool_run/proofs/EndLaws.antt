@@ -21,7 +21,7 @@ use Rattle.spool_run.specs.Rules.{IsBatch, before_work, NothingIsDue}
 use Rattle.spool_run.specs.Fronts.{AreInFront, ComesNext, IsReadTo}
 use Rattle.spool_run.specs.Intake as intake
 use Rattle.spool_run.specs.Intake.{TookIn, TookAll, EndsSo}
-use Rattle.spool_run.specs.Steps.{DrainEnds, LastDrained, stopped, settled, BatchDrained, few, many, CommandRefused, CommandTaken, OneTaken, refused, taken, SweepFailed, SweepTaken, SweptDrained, halted, drained, SoFar}
+use Rattle.spool_run.specs.Steps.{DrainEnds, LastDrained, stopped, settled, BatchDrained, few, many, AddedNothing, CommandRefused, CommandTaken, OneTaken, refused, taken, SweepFailed, SweepTaken, SweptDrained, halted, drained, SoFar}
 use Rattle.spool_run.proofs.Readings.{one_more, whole_spool, bad_spool, a_front, were_read, nothing_read}
 use Rattle.spool_run.proofs.Took.{Fresh, took_nothing, took_last, took_end, took_batch, took_command, took_sweep, took_still}
 use Rattle.program_words.specs.json_tree.Limits.{most_payload}
@@ -45,27 +45,27 @@ module _ {D K : Type 0} (w : Sight D K) (now : ℤ) (bytes rest : Option (List �
   drain_ends end.Memory d = record { items = items; spool = front; took = took; after = d }
 
   command_ends : (still : TookIn w now bytes false items a c) → NothingIsDue still.more c.pending → (x : Command) → ComesNext now bytes items (command x) → x.received ≡ now → length x.payload ≤ most_payload
-      → (end : SpoolEnd) → CommandRefused w end x b c → EndsSo w now end bytes rest a c
-  command_ends still calm x comes received short end.Done d = absurd d
-  command_ends still calm x comes received short (end.Bad at) d = absurd d
-  command_ends still calm x comes received short end.ReadFault d = absurd d
-  command_ends still calm x comes received short end.QueueFault d = inl (record { items = items; spool = front; took = still; after = (queue_rose_later w past a b c p d.0, d.1, d.2, calm, x, comes, d.3) })
-  command_ends still calm x comes received short end.StoreDown d = absurd d
-  command_ends still calm x comes received short end.StoreFault d = absurd d
-  command_ends still calm x comes received short end.Spent d =
+      → AddedNothing w (command x) b c → (end : SpoolEnd) → CommandRefused w end x b c → EndsSo w now end bytes rest a c
+  command_ends still calm x comes received short added end.Done d = absurd d
+  command_ends still calm x comes received short added (end.Bad at) d = absurd d
+  command_ends still calm x comes received short added end.ReadFault d = absurd d
+  command_ends still calm x comes received short added end.QueueFault d = inl (record { items = items; spool = front; took = still; after = (queue_rose_later w past a b c p d.0, d.1, d.2, calm, x, comes, d.3, record { earlier = past; mid = b; before = p; up = up; passed = added.passed; link = added.link; failed = d.0 }) })
+  command_ends still calm x comes received short added end.StoreDown d = absurd d
+  command_ends still calm x comes received short added end.StoreFault d = absurd d
+  command_ends still calm x comes received short added end.Spent d =
       inl (record { items = items; spool = front; took = still; after = (d.0, calm, record { command_is = x; comes = comes; received = received; payload = short; spent = d.1 }) })
-  command_ends still calm x comes received short end.Memory d = record { items = items; spool = front; took = took; after = d }
+  command_ends still calm x comes received short added end.Memory d = record { items = items; spool = front; took = took; after = d }
 
-  sweep_ends : (kinds : Kinds) (m : ℤ) → ComesNext now bytes items (sweep kinds m) → c.pending ≡ [] → (end : SpoolEnd) → SweepFailed w end kinds m b c → EndsSo w now end bytes rest a c
-  sweep_ends kinds m comes none end.Done d = absurd d
-  sweep_ends kinds m comes none (end.Bad at) d = absurd d
-  sweep_ends kinds m comes none end.ReadFault d = absurd d
-  sweep_ends kinds m comes none end.QueueFault d = absurd d
-  sweep_ends kinds m comes none end.StoreDown d = record { items = items; spool = front; took = took; after = (behind_later w past a b c p 2 d.0, d.1, intake.comes (record { kinds = kinds; moment = m; comes = comes; nothing = none }) (λ start stood. d.2 start (p.stands start stood))) }
-  sweep_ends kinds m comes none end.StoreFault d =
-      record { items = items; spool = front; took = took; after = (behind_later w past a b c p 1 d.0, d.1, (record { kinds = kinds; moment = m; comes = comes; nothing = none }, d.2)) }
-  sweep_ends kinds m comes none end.Spent d = inr (record { items = items; spool = front; took = took; after = (d.0, intake.to_sweep kinds m comes none d.1) })
-  sweep_ends kinds m comes none end.Memory d = record { items = items; spool = front; took = took; after = d }
+  sweep_ends : (kinds : Kinds) (m : ℤ) → ComesNext now bytes items (sweep kinds m) → c.pending ≡ [] → AddedNothing w (sweep kinds m) b c → (end : SpoolEnd) → SweepFailed w end kinds m b c → EndsSo w now end bytes rest a c
+  sweep_ends kinds m comes none added end.Done d = absurd d
+  sweep_ends kinds m comes none added (end.Bad at) d = absurd d
+  sweep_ends kinds m comes none added end.ReadFault d = absurd d
+  sweep_ends kinds m comes none added end.QueueFault d = absurd d
+  sweep_ends kinds m comes none added end.StoreDown d = record { items = items; spool = front; took = took; after = (behind_later w past a b c p 2 d.0, d.1, intake.comes (record { kinds = kinds; moment = m; comes = comes; nothing = none }) (λ start stood. d.2 start (p.stands start stood))) }
+  sweep_ends kinds m comes none added end.StoreFault d =
+      record { items = items; spool = front; took = took; after = (behind_later w past a b c p 1 d.0, d.1, (record { kinds = kinds; moment = m; comes = comes; nothing = none }, d.2, record { earlier = past; mid = b; before = p; up = up; passed = added.passed; link = added.link; failed = d.0 })) }
+  sweep_ends kinds m comes none added end.Spent d = inr (record { items = items; spool = front; took = took; after = (d.0, intake.to_sweep kinds m comes none d.1) })
+  sweep_ends kinds m comes none added end.Memory d = record { items = items; spool = front; took = took; after = d }
 
 -- ---- no batch
 
@@ -138,7 +138,7 @@ module _ {D K : Type 0} (w : Sight D K) (now : ℤ) (bytes : Option (List ℕ)) 
         let none : NothingIsDue h.took.more b.pending = record { few = h.few; whole = h.whole } in
         let still = took_still w now bytes false h.items a b h.took (command x) (comes (command x) g within) none c same.0 in
         command_ends w now bytes left h.items here a b c (took_last w now bytes h.items a c still.0) h.took.more h.took.passed h.up
-        still.0 (still_none h.took.more still.0.more b.pending c.pending still.1 same.1 none) x (comes (command x) g within) g.is_item.received_is g.is_item.payload end same.2
+        still.0 (still_none h.took.more still.0.more b.pending c.pending still.1 same.1 none) x (comes (command x) g within) g.is_item.received_is g.is_item.payload same.0 end same.2
     command_stops x g within end (taken mid t d) =
         batch_stops left (h.items ++ command x ∷ []) (comes (command x) g within) end a mid c
         (took_command w now bytes h.items a b mid t.0 x (comes (command x) g within) h.took h.few h.whole t.1) t.2 d
@@ -160,7 +160,7 @@ module _ {D K : Type 0} (w : Sight D K) (now : ℤ) (bytes : Option (List ℕ)) 
     sweep_stops kinds m g within end (drained mid k d t) =
         let before = took_end w now bytes h.items a b mid h.took k in
         sweep_ends w now bytes left h.items here a mid c (took_still w now bytes true h.items a mid before (sweep kinds m) (comes (sweep kinds m) g within) d.1 c t.0).0 before.more before.passed d.0
-        kinds m (comes (sweep kinds m) g within) (t.1 ∙ d.1) end t.2
+        kinds m (comes (sweep kinds m) g within) (t.1 ∙ d.1) t.0 end t.2
 
     -- the spool's end, whole or not
     took_all : (e : End) → IfSome bytes (λ b. SpoolOf now b h.items e) → Worked w b c → DrainEnds w None b c → TookAll w now bytes e a c

@@ -220,12 +220,12 @@ module _ {D : Type 0} (w : DiskSight D) (now : ℤ) (spool spool_after out out_a
           → is_down_of (pair_of ended.store) ≡ false → LacksDone (log_sight w) opened ended ⊎ IsLeft (log_sight w) opened ended
           → RunEnds status.QueueFault w now spool spool_after out out_after disks after
       queue_left items front t same up (inl lacks) =
-          inr (inr (inl (came_in true items front t same true (ap (λ (b : Bool). b || (queue_down ended.queue || is_down_of (pair_of ended.store))) lacks.undone) (DoneIsLacking w) lacks)))
+          inr (inr (inl (came_in true items front t same true (ap (λ (b : Bool). b || (queue_down ended.queue || is_down_of (pair_of ended.store))) lacks.undone) (DoneIsLacking w) (lacks, up))))
       queue_left items front t same up (inr left) =
           inr (inr (inr (
             is_down (log_sight w) ended,
             queue_rose_twice w disks opened opens ended sound now spool.bytes true items t left.0 up,
-            came_in true items front t same (is_down (log_sight w) ended) refl (CommandWaits w) (left.1, left.2),
+            came_in true items front t same (is_down (log_sight w) ended) refl (CommandWaits w) (left.1, left.2, (left.0, up)),
           )))
 
     -- ---- the intake's ends
@@ -266,7 +266,7 @@ module _ {D : Type 0} (w : DiskSight D) (now : ℤ) (spool spool_after out out_a
         (inr (inl (
           is_down (log_sight w) ended,
           queue_rose_twice w disks opened opens ended sound now spool.bytes false ends.items ends.took it.2 it.1,
-          came_in calm false ends.items ends.spool ends.took closes.1 (is_down (log_sight w) ended) refl (CommandComes now spool.bytes) (it.3, it.4, it.5, it.6),
+          came_in calm false ends.items ends.spool ends.took closes.1 (is_down (log_sight w) ended) refl (CommandComes w now spool.bytes) (it.3, it.4, it.5, it.6, (it.2, it.1), it.7),
         )))
         (queue_rose w disks opened opens ended sound it.0))
     closed_run end.QueueFault (inr ends) read answer closes =
@@ -280,7 +280,7 @@ module _ {D : Type 0} (w : DiskSight D) (now : ℤ) (spool spool_after out out_a
         at_end status.StoreDown answer closes.0
         (down_run calm true ends.items ends.spool ends.took closes.1
         (came_in calm true ends.items ends.spool ends.took closes.1 true (down_by_keeper ended.undone (queue_down ended.queue) (is_down_of (pair_of ended.store)) ends.after.1) (SomethingIsLeft w now spool.bytes disks after)
-        (rose_behind w disks opened opens ended sound now spool.bytes true ends.items ends.took 2 ends.after.0, ends.after.2))
+        (rose_behind w disks opened opens ended sound now spool.bytes true ends.items ends.took 2 ends.after.0, ends.after.1, ends.after.2))
         (rose_from 2 (faults_of opened.store) ends.after.0.counted (faults_of ended.store) ends.after.0.later ends.after.0.rose) ends.after.1)
     closed_run end.StoreFault ends read answer closes =
         let calm = no_read end.StoreFault tt read in

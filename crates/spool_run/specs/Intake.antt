@@ -15,7 +15,7 @@ use Rattle.fleet_hub.specs.core_laws.Threads.{items_of}
 use Rattle.fleet_hub.specs.core_state.declared.state.CoreState.{CoreState}
 use Rattle.fleet_hub.specs.core_state.StandsFor.{EachImage, StandsAt, history_of}
 use Rattle.fleet_hub.specs.core_course.Sight.{Sight, Stood, is_down}
-use Rattle.fleet_hub.specs.core_course.Courses.{Course, Passed}
+use Rattle.fleet_hub.specs.core_course.Courses.{Course, Link, Passed}
 use Rattle.fleet_hub.specs.core_course.Work.{IsWork}
 use Rattle.fleet_hub.specs.core_submits.Submits as submits
 use Rattle.fleet_hub.specs.core_drain.Ends.{HasNoRoom, QueueRose, LacksDone, ChangeIsOpen, RoseBehindFails, SomethingWaits, IsLeft}
@@ -79,6 +79,17 @@ pub record TookSome {D K : Type 0} (w : Sight D K) (now : ℤ) (due : Bool) (byt
   pub took : TookIn w now bytes due items old new
   pub after : Then took.more items
 
+-- The last call was that of this item, on a core that was up. It could write the record of the item alone, and added no event. It
+-- failed so.
+pub record FailedLast {D K : Type 0} (w : Sight D K) (item : Item) (Failed : CoreState D K → CoreState D K → Type 0) (old new : CoreState D K) : Type 0 where
+  pub earlier : History
+  pub mid : CoreState D K
+  pub before : Passed w earlier old mid
+  pub up : is_down w mid ≡ false
+  pub passed : Passed w [] mid new
+  pub link : Link w (λ begun. IsRecordOf mid.last item begun) mid new
+  pub failed : Failed mid new
+
 -- the next item is a sweep, and nothing is pending
 pub record SweepComes {D K : Type 0} (w : Sight D K) (now : ℤ) (bytes : Option (List ℕ)) (old new : CoreState D K) (items : List Item) : Type 0 where
   pub kinds : Kinds
@@ -86,10 +97,11 @@ pub record SweepComes {D K : Type 0} (w : Sight D K) (now : ℤ) (bytes : Option
   pub comes : ComesNext now bytes items (sweep kinds moment)
   pub nothing : new.pending ≡ []
 
--- and the store has room for it
-abbrev pub SweepHasRoom : {D K : Type 0} → Sight D K → ℤ → Option (List ℕ) → CoreState D K → CoreState D K → List Item → Type 0
-SweepHasRoom w now bytes old new items =
+-- and the store has room for it, but failed at it in the last call
+abbrev pub SweepKeptOut : {D K : Type 0} → Sight D K → ℤ → Option (List ℕ) → CoreState D K → CoreState D K → List Item → Type 0
+SweepKeptOut w now bytes old new items =
     (next : SweepComes w now bytes old new items) × (IsPast (w.store_size new.store) (store_text (store.Swept next.kinds next.moment)) → ⊥)
+    × FailedLast w (sweep next.kinds next.moment) (λ before after. RoseBehindFails w 1 before after) old new
 
 -- each image of the disks stands for the history, or for it and this sweep
 abbrev pub MayHaveSwept : {D K : Type 0} → Sight D K → Kinds → ℤ → CoreState D K → CoreState D K → Type 0
@@ -118,18 +130,19 @@ pub data IsSpent {D K : Type 0} (w : Sight D K) (now : ℤ) (bytes : Option (Lis
 
 -- What an end says of the spool's bytes, of those left, and of the core before and after. If a fault comes while the spool is
 -- read or at the next command, nothing is due. Otherwise it comes while commands are settled, or at a sweep. A command or a sweep
--- that a fault kept out had room.
+-- that a fault kept out had room, and the last call was its own.
 abbrev pub EndsSo : {D K : Type 0} → Sight D K → ℤ → SpoolEnd → Option (List ℕ) → Option (List ℕ) → CoreState D K → CoreState D K → Type 0
 EndsSo w now end.Done bytes rest old new = TookAll w now bytes whole old new × IsAtEnd rest
 EndsSo w now (end.Bad at) bytes rest old new = TookAll w now bytes (bad_at at) old new
 EndsSo w now end.ReadFault bytes rest old new = TookSome w now false bytes old new (λ more items. (is_down w new ≡ false) × NothingIsDue more new.pending × WereRead now bytes rest items)
 EndsSo w now end.QueueFault bytes rest old new =
-    TookSome w now false bytes old new (λ more items. QueueRose w old new × (w.store_down new.store ≡ false) × (new.undone ≡ false) × NothingIsDue more new.pending × (c : Command) × ComesNext now bytes items (command c) × (submits.IsSpent c new → ⊥))
+    TookSome w now false bytes old new (λ more items. QueueRose w old new × (w.store_down new.store ≡ false) × (new.undone ≡ false) × NothingIsDue more new.pending × (c : Command) × ComesNext now bytes items (command c) × (submits.IsSpent c new → ⊥)
+    × FailedLast w (command c) (λ before after. QueueRose w before after) old new)
     ⊎ TookSome w now true bytes old new (λ more items. QueueRose w old new × (w.store_down new.store ≡ false) × (LacksDone w old new ⊎ IsLeft w old new))
 EndsSo w now end.StoreDown bytes rest old new =
     TookSome w now true bytes old new (λ more items. RoseBehindFails w 2 old new × (w.store_down new.store ≡ true) × WorkIsLeft w now bytes old new items)
 EndsSo w now end.StoreFault bytes rest old new =
-    TookSome w now true bytes old new (λ more items. RoseBehindFails w 1 old new × (is_down w new ≡ false) × SweepHasRoom w now bytes old new items)
+    TookSome w now true bytes old new (λ more items. RoseBehindFails w 1 old new × (is_down w new ≡ false) × SweepKeptOut w now bytes old new items)
 EndsSo w now end.Spent bytes rest old new =
     TookSome w now false bytes old new (λ more items. (is_down w new ≡ false) × NothingIsDue more new.pending × SubmitIsSpent now bytes new items)
     ⊎ TookSome w now true bytes old new (λ more items. (is_down w new ≡ false) × IsSpent w now bytes old new items)

@@ -29,11 +29,12 @@ use Rattle.fleet_hub.specs.core_state.Tallies.{tally_of}
 use Rattle.fleet_hub.specs.core_opening.Opened.{LogCore, FilesStand, DisksStand, disks_in}
 use Rattle.fleet_hub.specs.core_course.Sight.{Sight, sight, is_down}
 use Rattle.fleet_hub.specs.core_course.Courses.{Course, NoMomentIsLeftOut, Passed}
+use Rattle.fleet_hub.specs.core_drain.Ends as drains
 use Rattle.fleet_hub.specs.core_drain.Ends.{LacksDone, RoseInLast, SomethingWaits}
 use Rattle.fleet_hub.specs.core_submits.Submits as submits
 use Rattle.spool_run.specs.Rules.{NothingIsDue, HasNoRestart, KeepsRules}
 use Rattle.spool_run.specs.Fronts.{AreInFront, ComesNext, WereRead}
-use Rattle.spool_run.specs.Intake.{MayTake, WorkIsLeft, SweepHasRoom, SubmitIsSpent, IsSpent}
+use Rattle.spool_run.specs.Intake.{MayTake, FailedLast, WorkIsLeft, SweepKeptOut, SubmitIsSpent, IsSpent}
 use Rattle.calm_commands.specs.declared.status.Status.{Status}
 use Rattle.calm_commands.specs.declared.status.Status.TheVariants as status
 use Rattle.calm_commands.specs.Told.{Stream, AppendsLess}
@@ -167,30 +168,40 @@ NotOpened w disks after answer spool spool_after = IsUnopened w disks after answ
 abbrev pub NoBatch : {D : Type 0} → ℤ → Option (List ℕ) → Option (List ℕ) → History → List Item → LogCore D → LogCore D → Type 0
 NoBatch now spool spool_after more items old new = NothingIsDue more new.pending × WereRead now spool spool_after items
 
--- and a command comes next, for which there is a receipt and room
-abbrev pub CommandComes : {D : Type 0} → ℤ → Option (List ℕ) → History → List Item → LogCore D → LogCore D → Type 0
-CommandComes now spool more items old new = NothingIsDue more new.pending × (c : Command) × ComesNext now spool items (thread.command c) × (submits.IsSpent c new → ⊥)
+-- no Done lacks and the store is up, so only the queue's log can be down
+abbrev pub OnlyQueueIsDown : {D : Type 0} → LogCore D → Type 0
+OnlyQueueIsDown core = (core.undone ≡ false) × (is_down_of (pair_of core.store) ≡ false)
+
+-- No batch limit is reached, and no drain is unfinished. A command comes next, for which there is a receipt and room. The last call
+-- was its submit, which counted the fault.
+abbrev pub CommandComes : {D : Type 0} → DiskSight D → ℤ → Option (List ℕ) → History → List Item → LogCore D → LogCore D → Type 0
+CommandComes w now spool more items old new =
+    NothingIsDue more new.pending × (c : Command) × ComesNext now spool items (thread.command c) × (submits.IsSpent c new → ⊥) × OnlyQueueIsDown new
+    × FailedLast (log_sight w) (thread.command c) (λ before after. drains.QueueRose (log_sight w) before after) old new
 
 -- a command comes next, for which there is no receipt or no room
 abbrev pub CommandIsSpent : {D : Type 0} → ℤ → Option (List ℕ) → History → List Item → LogCore D → LogCore D → Type 0
 CommandIsSpent now spool more items old new = NothingIsDue more new.pending × SubmitIsSpent now spool new items
 
--- A command is pending. If the core is up, its last call counted the fault: so the call found room.
+-- A command is pending. If the core is up, a fault was counted as the events of the last call came.
 abbrev pub CommandWaits : {D : Type 0} → DiskSight D → History → List Item → LogCore D → LogCore D → Type 0
-CommandWaits w more items old new = SomethingWaits (log_sight w) old new × (is_down (log_sight w) new ≡ false → RoseInLast (log_sight w) old new)
+CommandWaits w more items old new =
+    SomethingWaits (log_sight w) old new × (is_down (log_sight w) new ≡ false → RoseInLast (log_sight w) old new) × OnlyQueueIsDown new
 
--- the command that was applied last has no Done
+-- the command that was applied last has no Done, and the store is up
 abbrev pub DoneIsLacking : {D : Type 0} → DiskSight D → History → List Item → LogCore D → LogCore D → Type 0
-DoneIsLacking w more items old new = LacksDone (log_sight w) old new
+DoneIsLacking w more items old new = LacksDone (log_sight w) old new × (is_down_of (pair_of new.store) ≡ false)
 
--- A command is pending or a sweep comes next, of which alone an image may have a record. The store failed twice after all counted
--- failures.
+-- A command is pending or a sweep comes next, of which alone an image may have a record. The store is down, and failed twice after
+-- all counted failures.
 abbrev pub SomethingIsLeft : {D : Type 0} → DiskSight D → ℤ → Option (List ℕ) → Disks D → Disks D → History → List Item → LogCore D → LogCore D → Type 0
-SomethingIsLeft w now spool disks after more items old new = StoreRoseBehind 2 w disks after more × WorkIsLeft (log_sight w) now spool old new items
+SomethingIsLeft w now spool disks after more items old new =
+    StoreRoseBehind 2 w disks after more × (is_down_of (pair_of new.store) ≡ true) × WorkIsLeft (log_sight w) now spool old new items
 
--- A sweep comes next, for which there is room, and nothing is pending. The store failed after all counted failures.
+-- A sweep comes next, for which there is room, and nothing is pending. The last call was this sweep, at which the store failed after
+-- all counted failures.
 abbrev pub SweepIsLeft : {D : Type 0} → DiskSight D → ℤ → Option (List ℕ) → Disks D → Disks D → History → List Item → LogCore D → LogCore D → Type 0
-SweepIsLeft w now spool disks after more items old new = StoreRoseBehind 1 w disks after more × SweepHasRoom (log_sight w) now spool old new items
+SweepIsLeft w now spool disks after more items old new = StoreRoseBehind 1 w disks after more × SweepKeptOut (log_sight w) now spool old new items
 
 abbrev pub Anything : {D : Type 0} → History → List Item → LogCore D → LogCore D → Type 0
 Anything more items old new = Unit {0}
@@ -199,8 +210,8 @@ Anything more items old new = Unit {0}
 abbrev pub QueueRoseTwice : {D : Type 0} → DiskSight D → Disks D → Disks D → Type 0
 QueueRoseTwice w disks after = RoseBy 2 (w.faults disks.queue_a) (w.faults after.queue_a) ⊎ RoseBy 2 (w.faults disks.queue_b) (w.faults after.queue_b)
 
--- What each end says of the spool, of the disks and of what was printed. At QueueFault an image may include a record that was left
--- open only if the queue's log failed twice.
+-- What each end says of the spool, of the disks and of what was printed. At QueueFault the store's log is up, and at StoreDown it is
+-- down. At QueueFault an image may include a record that was left open only if the queue's log is down and failed twice.
 abbrev pub RunEnds : {D : Type 0} → Status → DiskSight D → ℤ → Stream → Stream → Stream → Stream → Disks D → Disks D → Type 0
 RunEnds status.Done w now spool spool_after out out_after disks after =
     RanThrough w now whole spool.bytes disks after (Appends out.bytes out_after.bytes) × IsAtEnd spool_after.bytes
@@ -211,7 +222,7 @@ RunEnds status.WriteFault w now spool spool_after out out_after disks after =
 RunEnds status.ReadFault w now spool spool_after out out_after disks after = RanSome w now false false spool.bytes disks after (NoBatch now spool.bytes spool_after.bytes)
 RunEnds status.QueueFault w now spool spool_after out out_after disks after =
     NotOpened w disks after status.QueueFault spool spool_after
-    ⊎ ((down : Bool) × (down ≡ true → QueueRoseTwice w disks after) × RanSome w now false down spool.bytes disks after (CommandComes now spool.bytes))
+    ⊎ ((down : Bool) × (down ≡ true → QueueRoseTwice w disks after) × RanSome w now false down spool.bytes disks after (CommandComes w now spool.bytes))
     ⊎ RanSome w now true true spool.bytes disks after (DoneIsLacking w)
     ⊎ ((down : Bool) × (down ≡ true → QueueRoseTwice w disks after) × RanSome w now true down spool.bytes disks after (CommandWaits w))
 RunEnds status.StoreDown w now spool spool_after out out_after disks after = RanSome w now true true spool.bytes disks after (SomethingIsLeft w now spool.bytes disks after)
