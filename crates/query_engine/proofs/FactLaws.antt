@@ -1,7 +1,7 @@
 -- Steps tell the same of a row over two lists of facts that have the same facts of the row's node, as far as steps name them.
-use Rattle.std.proofs.Common.{◌≡◌, ◌∙◌, ℕ, List, [], ◌∷◌, ◌++◌, Bool, true, false, not, ◌&&◌, map, refl, ap, Option, Some, if◌then◌else◌, unwrap_or, codes}
-use Rattle.std.specs.Prelude.{slice_get, filter}
-use Rattle.std.specs.List.{find, list_any, AllByRecursion}
+use Rattle.std.proofs.Common.{◌≡◌, ◌∙◌, ℕ, List, [], ◌∷◌, ◌++◌, Bool, false, not, ◌&&◌, map, refl, ap, Option, Some, if◌then◌else◌, unwrap_or, codes}
+use Rattle.std.specs.Prelude.{slice_get}
+use Rattle.std.specs.List.{list_any, AllByRecursion}
 use Rattle.std.specs.Option.{option_map, option_map_or}
 use Rattle.fleet_tables.specs.fleet_rows.Cell.{plain}
 use Rattle.fleet_tables.specs.fleet_rows.declared.row.Entity.{Entity}

@@ -1,9 +1,9 @@
 -- The rows of the facts that are named serve in place of all rows of facts.
-use Rattle.std.proofs.Common.{◌≡◌, ◌∙◌, ℕ, ◌+◌, ◌<◌, List, [], ◌∷◌, ◌++◌, length, drop, get_or, refl, sym, ap, subst, Bool, true, false, ◌||◌, ◌&&◌, if◌then◌else◌, Option, Some, None, append_assoc, append-nil}
+use Rattle.std.proofs.Common.{◌≡◌, ◌∙◌, ℕ, ◌+◌, ◌<◌, List, [], ◌∷◌, ◌++◌, length, drop, get_or, refl, sym, ap, subst, Bool, true, false, ◌||◌, ◌&&◌, if◌then◌else◌, Option, Some, None, append_assoc}
 use Rattle.std.specs.Borrow.{Bor}
 use Rattle.std.proofs.lemmas.List.{drop_more}
 use Rattle.query_reach.specs.Seen.{texts_seen}
-use Rattle.std.specs.Prelude.{codes, flat_map}
+use Rattle.std.specs.Prelude.{codes}
 use Rattle.std.specs.List.{find, list_any, AllByRecursion}
 use Rattle.std.specs.Option.{option_map_or}
 use Rattle.std.specs.Str.{bytes_eq}

@@ -14,3 +14,6 @@ mod WantedLaws
 mod FetchedLaws
 mod PlacedRows
 mod RowReads
+mod JoinLaws
+mod UnionLaws
+mod ReadLaws

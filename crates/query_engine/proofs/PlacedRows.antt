@@ -1,23 +1,23 @@
 -- Rows that are read by their places.
-use Rattle.std.proofs.Common.{◌≡◌, ◌∙◌, ℕ, zero, suc, ◌+◌, ◌*◌, ◌<◌, ◌≤◌, List, [], ◌∷◌, ◌++◌, Bool, true, false, length, map, drop, get_or, refl, sym, ap, subst, append_assoc, Option, Some, None, arith, if◌then◌else◌}
-use Rattle.std.specs.Prelude.{filter, flat_map, slice_get}
+use Rattle.std.proofs.Common.{◌≡◌, ◌∙◌, ℕ, zero, suc, ◌+◌, ◌*◌, ◌<◌, ◌≤◌, List, [], ◌∷◌, ◌++◌, Bool, true, false, length, map, drop, get_or, refl, sym, ap, subst, append_assoc, Option, Some, arith, if◌then◌else◌}
+use Rattle.std.specs.Prelude.{filter, slice_get}
 use Rattle.std.proofs.lemmas.List.Elements.{filter-append}
 use Rattle.std.proofs.lemmas.Option.{slice_get_within, slice_get_read}
 use Rattle.fleet_tables.proofs.of_plain_laws.Lists.{left_at}
 use Rattle.fleet_tables.proofs.PlaceLaws.{places_show}
 use Rattle.fleet_tables.specs.Spans.{places_of}
 use Rattle.query_plan.specs.table_spec.Rows.{Cells}
-use Rattle.query_engine.specs.Fetched.{one_in, slice_one}
+use Rattle.query_engine.specs.Fetched.{one_in, slice_one, picked}
 
 -- ---- two filters, of which the one passes no more than the other
 
-both_step : (b c : Bool) (x : Cells) (xs ys : List Cells) → (b ≡ true → c ≡ true) → xs ≡ ys → (if c then (if b then x ∷ xs else xs) else xs) ≡ (if b then x ∷ ys else ys)
+pub both_step : (b c : Bool) (x : Cells) (xs ys : List Cells) → (b ≡ true → c ≡ true) → xs ≡ ys → (if c then (if b then x ∷ xs else xs) else xs) ≡ (if b then x ∷ ys else ys)
 both_step true true x xs ys h e = ap (λ l. x ∷ l) e
 both_step true false x xs ys h e = absurd (let apart : false ≡ true = h refl in cc)
 both_step false true x xs ys h e = e
 both_step false false x xs ys h e = e
 
-skip_step : (p : Cells → Bool) (c : Bool) (x : Cells) (xs : List Cells) → filter p (if c then x ∷ xs else xs) ≡ (if c then (if p x then x ∷ filter p xs else filter p xs) else filter p xs)
+pub skip_step : (p : Cells → Bool) (c : Bool) (x : Cells) (xs : List Cells) → filter p (if c then x ∷ xs else xs) ≡ (if c then (if p x then x ∷ filter p xs else filter p xs) else filter p xs)
 skip_step p true x xs = refl
 skip_step p false x xs = refl
 
@@ -27,15 +27,12 @@ implied p q h (x ∷ xs) = skip_step p (q x) x (filter q xs) ∙ both_step (p x)
 
 -- ---- the rows at places
 
-abbrev pub picked : List Cells → List ℕ → List Cells
-picked rows = flat_map (slice_one rows)
-
 one_step : (o : Option Cells) (os : List (Option Cells)) (ys : List Cells) (x : Cells) (xs : List Cells) → o ∷ os ≡ Some x ∷ map Some xs → ys ≡ xs → one_in o ++ ys ≡ x ∷ xs
 one_step o os ys x xs h e =
     let same : o ≡ Some x = cc in
     (λ i. one_in (same i) ++ e i)
 
-picked_is : (rows : List Cells) (places : List ℕ) (xs : List Cells) → map (slice_get rows) places ≡ map Some xs → picked rows places ≡ xs
+pub picked_is : (rows : List Cells) (places : List ℕ) (xs : List Cells) → map (slice_get rows) places ≡ map Some xs → picked rows places ≡ xs
 picked_is rows [] [] h = refl
 picked_is rows [] (x ∷ xs) h = cc
 picked_is rows (p ∷ ps) [] h = cc

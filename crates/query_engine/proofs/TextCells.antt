@@ -1,5 +1,5 @@
 -- In tables each certname, each name of a fact, each type and title of a resource is a text.
-use Rattle.std.proofs.Common.{◌≡◌, ◌∙◌, ℕ, ℤ, List, [], ◌∷◌, map, false, Option, Some, None, refl, ap}
+use Rattle.std.proofs.Common.{◌≡◌, ℕ, ℤ, List, [], ◌∷◌, map, Option, Some, None, refl}
 use Rattle.std.specs.Prelude.{codes, flat_map}
 use Rattle.std.specs.List.{AllByRecursion}
 use Rattle.fleet_tables.proofs.of_plain_laws.Members.{all_both}
@@ -9,7 +9,7 @@ use Rattle.fleet_tables.specs.fleet_rows.declared.change.Change.TheVariants as c
 use Rattle.fleet_tables.specs.fleet_rows.declared.row.Entity.{Entity}
 use Rattle.fleet_tables.specs.fleet_rows.declared.row.Entity.TheVariants.{Nodes, Factsets, Facts, Catalogs, Resources, Edges, Reports}
 use Rattle.fleet_tables.specs.fleet_rows.declared.settings.Ttls.{Ttls}
-use Rattle.fleet_tables.specs.history_spec.Facts.{FactRow, rows_of_facts}
+use Rattle.fleet_tables.specs.history_spec.Facts.{rows_of_facts}
 use Rattle.fleet_tables.specs.table_machine.Rows.{node_rows, table_rows}
 use Rattle.fleet_tables.specs.table_machine.Table.{Node, Table}
 use Rattle.query_plan.specs.table_spec.Cells.{text_cell, fact_cells, resource_cells, edge_cells}

@@ -1,16 +1,15 @@
 -- What the tables are asked for is what the pins of a stage demand.
-use Rattle.std.proofs.Common.{◌≡◌, ◌∙◌, ℕ, List, [], ◌∷◌, Bool, true, false, ◌&&◌, Option, Some, None, refl, sym, ap, subst}
+use Rattle.std.proofs.Common.{◌≡◌, ◌∙◌, ℕ, List, [], ◌∷◌, Bool, true, false, ◌&&◌, Option, Some, None, refl, sym, ap}
 use Rattle.std.specs.Prelude.{codes}
 use Rattle.std.specs.Borrow.{Bor}
 use Rattle.std.specs.List.{AllByRecursion}
 use Rattle.fleet_tables.specs.Wanted.{has_own, is_wanted, texts_of, text_in}
 use Rattle.fleet_tables.specs.kept_nodes.declared.wanted.Wanted.{Wanted}
 use Rattle.fleet_tables.specs.kept_nodes.declared.wanted.WantedResource.{WantedResource}
-use Rattle.fleet_tables.specs.fleet_rows.Cell.{CellValue, plain}
+use Rattle.fleet_tables.specs.fleet_rows.Cell.{plain}
 use Rattle.fleet_tables.specs.fleet_rows.declared.row.Entity.{Entity}
 use Rattle.fleet_tables.specs.fleet_rows.declared.row.Entity.TheVariants.{Facts, Resources}
 use Rattle.fleet_tables.specs.table_machine.Rows.{table_rows}
-use Rattle.fleet_tables.specs.table_machine.Table.{Table}
 use Rattle.same_text.specs.text_spec.Json.{null}
 use Rattle.query_plan.specs.table_spec.Cells.{text_cell}
 use Rattle.query_plan.specs.table_spec.Columns.{columns}
@@ -29,7 +28,7 @@ and-false : (a : Bool) → (a && false) ≡ false
 and-false true = refl
 and-false false = refl
 
-all_so : {A : Type 0} (P Q : A → Type 0) (xs : List A) → ((x : A) → P x → Q x) → AllByRecursion P xs → AllByRecursion Q xs
+pub all_so : {A : Type 0} (P Q : A → Type 0) (xs : List A) → ((x : A) → P x → Q x) → AllByRecursion P xs → AllByRecursion Q xs
 all_so P Q [] h t = tt
 all_so P Q (x ∷ xs) h t = (h x t.0, all_so P Q xs h t.1)
 
@@ -121,13 +120,13 @@ no_certname e ps h = λ table.
     (certnames_are_texts e table)
 
 -- what is asked besides the certname depends on the rest alone
-own_same : (e : Entity) (c d : Option (Bor (List ℕ))) (name : Option (Bor (List ℕ))) (resource : Option WantedResource) (row : Cells)
+pub own_same : (e : Entity) (c d : Option (Bor (List ℕ))) (name : Option (Bor (List ℕ))) (resource : Option WantedResource) (row : Cells)
     → has_own e (texts_of (record { certname = c; name = name; resource = resource })) row ≡ has_own e (texts_of (record { certname = d; name = name; resource = resource })) row
 own_same Facts c d name resource row = refl
 own_same Resources c d name resource row = refl
 own_same _ c d name resource row = refl
 
-own_alike : (e : Entity) (v w : Wanted) (row : Cells) → v.name ≡ w.name → v.resource ≡ w.resource → has_own e (texts_of v) row ≡ has_own e (texts_of w) row
+pub own_alike : (e : Entity) (v w : Wanted) (row : Cells) → v.name ≡ w.name → v.resource ≡ w.resource → has_own e (texts_of v) row ≡ has_own e (texts_of w) row
 own_alike e v w row n r =
     (λ i. has_own e (texts_of (record { certname = v.certname; name = n i; resource = r i })) row) ∙ own_same e v.certname w.certname w.name w.resource row
 

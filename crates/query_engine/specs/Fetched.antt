@@ -1,7 +1,6 @@
 -- The rows of the facts that a filter names, in place of all rows of facts.
 use Rattle.std.specs.Prelude.{◌≡◌, ℕ, List, [], ◌∷◌, Option, Some, None, flat_map, slice_get}
 use Rattle.std.specs.List.{find}
-use Rattle.fleet_tables.specs.fleet_rows.declared.row.Entity.TheVariants.{Facts}
 use Rattle.query_plan.specs.means_spec.Cells.{is_fact}
 use Rattle.query_plan.specs.table_spec.Rows.{Cells}
 
@@ -12,6 +11,10 @@ one_in (Some x) = x ∷ []
 -- the row at a place, if there is one
 abbrev pub slice_one : List Cells → ℕ → List Cells
 slice_one rows place = one_in (slice_get rows place)
+
+-- the rows at places
+abbrev pub picked : List Cells → List ℕ → List Cells
+picked rows = flat_map (slice_one rows)
 
 -- the row of the node's fact, if there is one
 abbrev pub fact_row : List ℕ → List Cells → List ℕ → List Cells

@@ -1,5 +1,6 @@
 pub mod Fetched
 pub mod Wanted
+pub mod Joins
 pub mod Added
 pub mod Best
 pub mod Grouped

@@ -1,5 +1,5 @@
 -- What the tables are asked for, from what a stage demands.
-use Rattle.std.specs.Prelude.{◌≡◌, ℕ, List, [], false, Option, Some, None}
+use Rattle.std.specs.Prelude.{◌≡◌, List, [], false, Option, Some, None}
 use Rattle.std.specs.List.{AllByRecursion}
 use Rattle.fleet_tables.specs.Wanted.{has_own, is_wanted, texts_of}
 use Rattle.fleet_tables.specs.kept_nodes.declared.wanted.Wanted.{Wanted}

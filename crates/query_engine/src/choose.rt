@@ -1,5 +1,6 @@
 //! Finds the rows that a stage chooses.
 ghost use Rattle.std.specs.Prelude.{◌≡◌, ◌++◌, ◌∷◌, ◌+◌, ◌*◌, ◌<◌, ◌≤◌, [], ℕ, List, map, length, IfOk, OnOk, Some, filter, true};
+ghost use Rattle.std.specs.List.{AllByRecursion};
 ghost use Rattle.fleet_tables.specs.fleet_rows.Cell.{cells_of};
 ghost use Rattle.query_plan.specs.Plan.{chosen_rows, is_chosen};
 ghost use Rattle.query_plan.specs.Made.{stage_of};
@@ -11,10 +12,12 @@ ghost use Rattle.query_reach.specs.Seen.{texts_seen};
 ghost use Rattle.query_rows.specs.Tries.{HasTried};
 ghost use Rattle.query_rows.specs.Scenes.{world};
 ghost use Rattle.query_rows.specs.Tables.{world_of};
-ghost use Rattle.query_engine.specs.Fetched.{slice_one};
+ghost use Rattle.query_engine.specs.Fetched.{picked, slice_one};
+ghost use Rattle.query_engine.specs.Joins.{Joins, step_join};
 
 use crate::facts::facts_for;
-use crate::reading::places_in_reach;
+use crate::joins::Nodes;
+use crate::reading::places_for;
 use fleet_tables::fleet_rows::{Cell, Cells, Entity};
 use fleet_tables::{Steps, Tables};
 use paging_text::Lines;
@@ -131,9 +134,9 @@ fn choose_at<L: Ledger, P: Patterns>(
     )
 }
 
-// The chosen rows of an entity, read by the places of the rows in reach of the pins.
+// The chosen rows among those at the places. Each place is read once.
 #[tactic(auto, using(query_rows::proofs::TryLaws::tried_nothing, query_rows::proofs::TryLaws::tried_then))]
-fn chosen_of<L: Ledger, P: Patterns>(
+fn read_places<L: Ledger, P: Patterns>(
     alloc: Global,
     tables: &Tables,
     patterns: &mut P,
@@ -142,26 +145,24 @@ fn chosen_of<L: Ledger, P: Patterns>(
     stage: &Stage,
     steps: &[Ready],
     names: &[&Text],
-    pins: &Pins,
     entity: Entity,
+    places: &[usize],
     walk: &mut Steps<L>,
 ) -> Result<Lines, AllocError>
     requires steps { steps.now ≡ stage.now.steps }
     requires names { texts_seen names.now ≡ steps_facts stage.now.steps }
     requires entity { stage.now.entity ≡ Some entity }
-    requires implied { (row : CellsValue) → is_chosen (world_of tables.now (P.says patterns.old)) (map (λ c. P.made_from c) compiled.now) found.now
-        (stage_of stage.now) row ≡ true → is_found (Some entity) pins.now row ≡ true }
+    requires places { AllByRecursion (λ place. place < length (table_rows entity tables.now)) places.now }
     ensures same { (p t : List ℕ) → P.says patterns.new p t ≡ P.says patterns.old p t }
     ensures calm { P.refusals patterns.new ≡ P.refusals patterns.old }
     ensures silent { P.asked patterns.new ≡ P.asked patterns.old }
     ensures tried { HasTried (P.course patterns.old) (P.course patterns.new) }
-    ensures cost { walk.new ≤ walk.old + length (filter (is_found (Some entity) pins.now) (table_rows entity tables.now)) * (1 + length names.now) }
+    ensures cost { walk.new ≤ walk.old + length places.now * (1 + length names.now) }
     ensures value { IfOk result (λ rows. rows ≡ filter (is_chosen (world_of tables.now (P.says patterns.old))
-        (map (λ c. P.made_from c) compiled.now) found.now (stage_of stage.now)) (table_rows entity tables.now)) }
+        (map (λ c. P.made_from c) compiled.now) found.now (stage_of stage.now)) (picked (table_rows entity tables.now) places.now)) }
 {
-    let places = places_in_reach(alloc, tables, entity, pins.as_slice())?;
     let mut chosen = Lines::new(alloc);
-    'reading: for i in 0..places.len() {
+    'reading: for place in places {
         choose_at(
             alloc,
             tables,
@@ -172,7 +173,7 @@ fn chosen_of<L: Ledger, P: Patterns>(
             steps,
             names,
             entity,
-            places[i],
+            *place,
             &mut chosen,
             walk,
         )?;
@@ -180,7 +181,53 @@ fn chosen_of<L: Ledger, P: Patterns>(
     Ok(chosen)
 }
 
-/// The rows that the stage chooses. `found` has the rows of the levels before it. Only rows in reach of the pins are read.
+// The chosen rows of an entity, read by the places of the rows in reach.
+fn chosen_of<L: Ledger, P: Patterns>(
+    alloc: Global,
+    tables: &Tables,
+    patterns: &mut P,
+    compiled: &[P::Compiled],
+    found: &[Known],
+    stage: &Stage,
+    steps: &[Ready],
+    names: &[&Text],
+    pins: &Pins,
+    nodes: &Nodes,
+    entity: Entity,
+    walk: &mut Steps<L>,
+) -> Result<Lines, AllocError>
+    requires steps { steps.now ≡ stage.now.steps }
+    requires names { texts_seen names.now ≡ steps_facts stage.now.steps }
+    requires entity { stage.now.entity ≡ Some entity }
+    requires implied { (row : CellsValue) → is_chosen (world_of tables.now (P.says patterns.old)) (map (λ c. P.made_from c) compiled.now) found.now
+        (stage_of stage.now) row ≡ true → is_found (Some entity) pins.now row ≡ true }
+    requires joined { nodes.now.joined ≡ true → Joins (step_join stage.now.steps) found.now (texts_seen nodes.now.list.items) }
+    ensures same { (p t : List ℕ) → P.says patterns.new p t ≡ P.says patterns.old p t }
+    ensures calm { P.refusals patterns.new ≡ P.refusals patterns.old }
+    ensures silent { P.asked patterns.new ≡ P.asked patterns.old }
+    ensures tried { HasTried (P.course patterns.old) (P.course patterns.new) }
+    ensures cost { walk.new ≤ walk.old + length (filter (is_found (Some entity) pins.now) (table_rows entity tables.now)) * (1 + length names.now) }
+    ensures value { IfOk result (λ rows. rows ≡ filter (is_chosen (world_of tables.now (P.says patterns.old))
+        (map (λ c. P.made_from c) compiled.now) found.now (stage_of stage.now)) (table_rows entity tables.now)) }
+{
+    let places = places_for(alloc, tables, entity, pins.as_slice(), nodes)?;
+    read_places(
+        alloc,
+        tables,
+        patterns,
+        compiled,
+        found,
+        stage,
+        steps,
+        names,
+        entity,
+        places.as_slice(),
+        walk,
+    )
+}
+
+/// The rows that the stage chooses. `found` has the rows of the levels before it. Only rows in reach of the pins are read,
+/// and of the nodes alone if the stage is limited to them.
 #[tactic(auto, using(query_rows::proofs::TryLaws::tried_nothing))]
 pub(crate) fn chosen_rows<L: Ledger, P: Patterns>(
     alloc: Global,
@@ -192,12 +239,14 @@ pub(crate) fn chosen_rows<L: Ledger, P: Patterns>(
     steps: &[Ready],
     names: &[&Text],
     pins: &Pins,
+    nodes: &Nodes,
     walk: &mut Steps<L>,
 ) -> Result<Lines, AllocError>
     requires steps { steps.now ≡ stage.now.steps }
     requires names { texts_seen names.now ≡ steps_facts stage.now.steps }
     requires implied { (row : CellsValue) → is_chosen (world_of tables.now (P.says patterns.old)) (map (λ c. P.made_from c) compiled.now) found.now
         (stage_of stage.now) row ≡ true → is_found stage.now.entity pins.now row ≡ true }
+    requires joined { nodes.now.joined ≡ true → Joins (step_join stage.now.steps) found.now (texts_seen nodes.now.list.items) }
     ensures same { (p t : List ℕ) → P.says patterns.new p t ≡ P.says patterns.old p t }
     ensures calm { P.refusals patterns.new ≡ P.refusals patterns.old }
     ensures silent { P.asked patterns.new ≡ P.asked patterns.old }
@@ -209,7 +258,8 @@ pub(crate) fn chosen_rows<L: Ledger, P: Patterns>(
     match stage.entity {
         None => Ok(Lines::new(alloc)),
         Some(entity) => chosen_of(
-            alloc, tables, patterns, compiled, found, stage, steps, names, pins, entity, walk,
+            alloc, tables, patterns, compiled, found, stage, steps, names, pins, nodes, entity,
+            walk,
         ),
     }
 }

@@ -20,6 +20,7 @@ ghost use Rattle.query_engine.specs.declared.engine.QueryFault.TheVariants.{Memo
 
 use crate::answer::{Answered, answer_of};
 use crate::choose::chosen_rows;
+use crate::joins::nodes_for;
 use crate::reading::{Reading, pins_for};
 use crate::shown::output_names;
 use fleet_tables::fleet_rows::Names;
@@ -118,10 +119,11 @@ fn stage_rows<'q, L: Ledger, P: Patterns>(
     let ready = ready_steps(alloc, patterns.keys(), list)?;
     let names = facts_of(alloc, list)?;
     let pins = pins_for(alloc, reading, list)?;
+    let nodes = nodes_for(alloc, tables, reading, list, found)?;
     let steps = ready.as_slice();
     let named = names.as_slice();
     let rows = chosen_rows(
-        alloc, tables, patterns, compiled, found, stage, steps, named, &pins, walk,
+        alloc, tables, patterns, compiled, found, stage, steps, named, &pins, &nodes, walk,
     )?;
     match stage.shape {
         Shape::Whole => Ok(Answered::Rows(rows)),

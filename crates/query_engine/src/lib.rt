@@ -8,8 +8,9 @@
 //! most those of the query's bound (`query_reach`). Contracts see the tables as a world of queries (`query_rows`).
 //!
 //! A level reads the rows that show what its filter demands of certnames, names of facts, types and titles; the tables find their
-//! places without reading a row. Each other row would fail the filter. [`select_reading`] can read all rows instead. A fact that a
-//! filter names is one row more for each row that is read.
+//! places without reading a row. Each other row would fail the filter. If a conjunct demands that a row's node is one of those of an
+//! inner level, and that level found few, only the rows of these nodes are asked for. [`select_reading`] can read all rows instead. A
+//! fact that a filter names is one row more for each row that is read.
 //!
 //! Each step of a filter tests a single row. The rows of a level within `in` or `subquery`, and the literals of a long array, are
 //! indexed by a text once. So a row is compared with few of them. Grouping takes a look-up for each row, and then sorts the groups.
@@ -32,6 +33,7 @@ mod engine;
 mod facts;
 mod functions;
 mod groups;
+mod joins;
 mod reading;
 mod shown;
 mod sums;

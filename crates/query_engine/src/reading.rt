@@ -1,15 +1,23 @@
 //! Finds the places of the rows that a stage may choose.
-ghost use Rattle.std.specs.Prelude.{◌≡◌, List, Some, IfOk, codes};
+//!
+//! They are those of the rows that show what the stage's pins demand. If the stage is also limited to the nodes that an inner level
+//! found, only the rows of these nodes are asked for, node by node. This works where their places rise, as they do in a list of
+//! nodes in order; otherwise the limit is left out.
+ghost use Rattle.std.specs.Prelude.{◌≡◌, ◌++◌, ◌&&◌, ◌||◌, ◌∷◌, ℕ, Bool, List, [], Some, IfOk, IfSome, OnOk, codes, true, false};
+ghost use Rattle.std.specs.List.{list_any};
 ghost use Rattle.fleet_tables.specs.fleet_rows.declared.row.Entity.{Entity as EntityValue};
 ghost use Rattle.fleet_tables.specs.fleet_rows.declared.row.Entity.TheVariants as entities;
 ghost use Rattle.fleet_tables.specs.table_machine.Rows.{table_rows};
 ghost use Rattle.fleet_tables.specs.Spans.{places_of};
 ghost use Rattle.query_plan.specs.Made.{steps_of};
+ghost use Rattle.query_plan.specs.table_spec.Rows.{Cells as CellsOf};
 ghost use Rattle.query_reach.specs.Demands.{IsDemand, IsOnly};
-ghost use Rattle.query_reach.specs.Reach.{Pin as PinOf, demanded, is_found};
-ghost use Rattle.query_reach.specs.Seen.{pins_seen};
+ghost use Rattle.query_reach.specs.Reach.{Pin as PinOf, demanded, is_found, shows_own};
+ghost use Rattle.query_reach.specs.Seen.{pins_seen, texts_seen};
+ghost use Rattle.query_engine.specs.Joins.{AreReadBy, IsReadBy, below, is_of, stands_behind};
 ghost use Rattle.query_engine.specs.Wanted.{IsOwnBy, IsPinsFor, IsWantedBy};
 
+use crate::joins::Nodes;
 use fleet_tables::fleet_rows::Entity;
 use fleet_tables::{Tables, Wanted, WantedResource};
 use query_plan::Step;
@@ -138,8 +146,8 @@ fn wanted_of<'q>(entity: Entity, pins: &[Pin<'q>]) -> Option<Wanted<'q>>
     with_certname(demand_on(pins, "certname"), own_of(entity, pins))
 }
 
-/// The places of the rows in reach of the pins, in order. No row is read for it.
-pub(crate) fn places_in_reach(
+// The places of the rows in reach of the pins, in order. No row is read for it.
+fn places_in_reach(
     alloc: Global,
     tables: &Tables,
     entity: Entity,
@@ -150,5 +158,131 @@ pub(crate) fn places_in_reach(
     match wanted_of(entity, pins) {
         Some(wanted) => tables.seek(alloc, entity, &wanted),
         None => Ok(Vec::new(alloc)),
+    }
+}
+
+// ---- the rows of some nodes
+
+fn stands_behind(places: &[usize], more: &[usize]) -> bool
+    ensures { result ≡ stands_behind places.now more.now }
+{
+    match more {
+        [] => true,
+        [first, ..] => is_below(places, *first),
+    }
+}
+
+fn is_below(places: &[usize], bound: usize) -> bool
+    ensures { result ≡ below places.now bound }
+{
+    match places {
+        [] => true,
+        [.., last] => *last < bound,
+    }
+}
+
+// Appends the places, if they stand behind those before.
+fn push_places(places: &mut Vec<usize>, more: Vec<usize>) -> Result<bool, AllocError>
+    ensures { IfOk result (λ behind. behind ≡ true
+        → (stands_behind places.old.items more.items ≡ true) × (places.new.items ≡ places.old.items ++ more.items)) }
+{
+    let mut more = more;
+    if !stands_behind(places.as_slice(), more.as_slice()) {
+        return Ok(false);
+    }
+    places.append(&mut more)?;
+    Ok(true)
+}
+
+// Appends the places of the rows of one more node, which show the rest too.
+fn push_node(
+    alloc: Global,
+    tables: &Tables,
+    entity: Entity,
+    own: &Wanted<'_>,
+    node: &str,
+    places: &mut Vec<usize>,
+) -> Result<bool, AllocError>
+    ensures { IfOk result (λ behind. behind ≡ true → (ps : List PinOf) → IsOwnBy entity ps (Some own.now)
+        → (before : CellsOf → Bool) → places.old.items ≡ places_of before (table_rows entity tables.now)
+        → places.new.items ≡ places_of (λ row. before row || (is_of entity (node.now ∷ []) row && shows_own (Some entity) ps row)) (table_rows entity tables.now)) }
+{
+    let wanted = own_under(Some(node), *own);
+    let more = tables.seek(alloc, entity, &wanted)?;
+    push_places(places, more)
+}
+
+// The places of the rows of these nodes, which show the rest too. None if they don't rise.
+fn places_of_nodes(
+    alloc: Global,
+    tables: &Tables,
+    entity: Entity,
+    own: &Wanted<'_>,
+    nodes: &[&str],
+) -> Result<Option<Vec<usize>>, AllocError>
+    ensures { IfOk result (λ found. (ps : List PinOf) → IsOwnBy entity ps (Some own.now)
+        → IfSome found (λ places. places.items ≡ places_of (λ row. is_of entity (texts_seen nodes.now) row && shows_own (Some entity) ps row) (table_rows entity tables.now))) }
+{
+    let mut places = Vec::new(alloc);
+    'asking: for node in nodes {
+        let behind = push_node(alloc, tables, entity, own, node, &mut places)?;
+        if !behind {
+            return Ok(None);
+        }
+    }
+    Ok(Some(places))
+}
+
+// The same for rows in reach of the pins. None too if these demand certnames, or what no row shows.
+fn places_by_nodes(
+    alloc: Global,
+    tables: &Tables,
+    entity: Entity,
+    pins: &[Pin<'_>],
+    nodes: &[&str],
+) -> Result<Option<Vec<usize>>, AllocError>
+    ensures { IfOk result (λ found. IfSome found (λ places. places.items
+        ≡ places_of (λ row. is_of entity (texts_seen nodes.now) row && is_found (Some entity) (pins_seen pins.now) row) (table_rows entity tables.now))) }
+{
+    match demand_on(pins, "certname") {
+        Demand::Nothing => match own_of(entity, pins) {
+            Some(own) => places_of_nodes(alloc, tables, entity, &own, nodes),
+            None => Ok(None),
+        },
+        Demand::Shows(_) => Ok(None),
+        Demand::Different => Ok(None),
+    }
+}
+
+// The places of the rows of these nodes that are in reach of the pins, or of all rows in reach.
+fn places_joined(
+    alloc: Global,
+    tables: &Tables,
+    entity: Entity,
+    pins: &[Pin<'_>],
+    nodes: &[&str],
+) -> Result<Vec<usize>, AllocError>
+    ensures { IfOk result (λ places. IsReadBy entity (pins_seen pins.now) (texts_seen nodes.now) (table_rows entity tables.now) places.items) }
+{
+    match places_by_nodes(alloc, tables, entity, pins, nodes)? {
+        Some(places) => Ok(places),
+        None => places_in_reach(alloc, tables, entity, pins),
+    }
+}
+
+/// The places of the rows that are read: those in reach of the pins, and of these nodes alone if the level is limited to them.
+pub(crate) fn places_for(
+    alloc: Global,
+    tables: &Tables,
+    entity: Entity,
+    pins: &[Pin<'_>],
+    nodes: &Nodes<'_>,
+) -> Result<Vec<usize>, AllocError>
+    ensures { IfOk result (λ places. AreReadBy nodes.now.joined entity (pins_seen pins.now) (texts_seen nodes.now.list.items) (table_rows entity tables.now) places.items) }
+{
+    if nodes.joined {
+        places_joined(alloc, tables, entity, pins, nodes.list.as_slice())
+    } else {
+        places_in_reach(alloc, tables, entity, pins)
     }
 }

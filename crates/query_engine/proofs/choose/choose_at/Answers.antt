@@ -1,19 +1,11 @@
-use Rattle.std.proofs.Common.{◌≡◌, ◌∙◌, ◌++◌, ◌∷◌, [], ℕ, List, Bool, Some, Option, map, ap, sym, subst}
-use Rattle.std.specs.Prelude.{filter, slice_get}
-use Rattle.std.specs.List.{AllByRecursion}
+use Rattle.std.proofs.Common.{◌∙◌, ◌++◌, ℕ, List, Bool, Some, map, ap}
 use Rattle.std.proofs.lemmas.Result.{IfOk-weaker}
-use Rattle.fleet_tables.specs.Asked.{is_inactive_in}
-use Rattle.fleet_tables.specs.fleet_rows.declared.row.Entity.{Entity}
 use Rattle.fleet_tables.specs.fleet_rows.declared.row.Entity.TheVariants.{Facts}
 use Rattle.fleet_tables.specs.table_machine.Rows.{table_rows}
 use Rattle.query_plan.specs.means_spec.Cells.{node_in}
-use Rattle.query_plan.specs.table_spec.Rows.{Cells}
 use Rattle.query_plan.specs.Made.{stage_of}
-use Rattle.query_plan.specs.Plan.{is_chosen}
 use Rattle.query_reach.specs.Seen.{texts_seen}
-use Rattle.query_engine.specs.Fetched.{SameFact, fetched, one_in}
-use Rattle.query_engine.proofs.FactLaws.{row_alike}
-use Rattle.query_engine.proofs.FetchedLaws.{fetched_serve}
+use Rattle.query_engine.specs.Fetched.{fetched}
 use Rattle.query_engine.proofs.RowReads.{chosen_at}
 use Rattle.query_engine.proofs.choose.choose_at.Goals as goal
 

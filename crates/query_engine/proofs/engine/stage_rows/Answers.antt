@@ -1,9 +1,10 @@
-use Rattle.std.proofs.Common.{◌∙◌, ℕ, List, Bool, map, ap}
+use Rattle.std.proofs.Common.{◌∙◌, ℕ, List, Bool, map, ap, subst}
 use Rattle.std.proofs.lemmas.Result.{IfOk-weaker}
 use Rattle.query_plan.specs.Made.{shape_of, stage_of}
 use Rattle.query_reach.specs.Pins.{steps_facts}
 use Rattle.query_reach.specs.Seen.{texts_seen}
 use Rattle.query_rows.specs.Tables.{world_of}
+use Rattle.query_engine.specs.Joins.{Joins, step_join}
 use Rattle.query_engine.proofs.RowReads.{pins_imply, stage_cost}
 use Rattle.query_engine.proofs.Stages.{stage_answered}
 use Rattle.query_engine.proofs.engine.stage_rows.Goals as goal
@@ -17,6 +18,10 @@ chosen_rows-requires-clause-implied g c =
     let ps : List (List ℕ) = map (λ x. g.P.Patterns.made_from x) c.args.compiled.now in
     let says : List ℕ → List ℕ → Bool = g.P.Patterns.says c.args.patterns.now in
     pins_imply (world_of c.args.tables.now says) ps c.args.found.now (stage_of c.args.stage.now) c.args.reading _ _ c.as_slice-list.ensures c.in_ok-pins.ensures
+
+pub chosen_rows-requires-clause-joined : goal.chosen_rows-requires-clause-joined
+chosen_rows-requires-clause-joined g c = λ on.
+    subst (λ ss. Joins (step_join ss) c.args.found.now (texts_seen c.in_ok-nodes.nodes.list.items)) c.as_slice-list.ensures (c.in_ok-nodes.ensures on)
 
 pub returns-in-Whole-clause-cost : goal.returns-in-Whole-clause-cost
 returns-in-Whole-clause-cost g c =

@@ -1,11 +1,10 @@
-use Rattle.std.proofs.Common.{◌≡◌, ◌∙◌, List, [], Some, sym, subst}
+use Rattle.std.proofs.Common.{◌∙◌, Some, sym}
 use Rattle.std.proofs.lemmas.Result.{IfOk-weaker}
 use Rattle.fleet_tables.proofs.PlaceLaws.{all_same, no_places, same_places}
 use Rattle.fleet_tables.specs.Wanted.{is_wanted, texts_of}
 use Rattle.fleet_tables.specs.table_machine.Rows.{table_rows}
 use Rattle.query_reach.specs.Reach.{is_found}
 use Rattle.query_reach.specs.Seen.{pins_seen}
-use Rattle.query_engine.specs.Wanted.{IsWantedBy}
 use Rattle.query_engine.proofs.reading.places_in_reach.Goals as goal
 
 pub returns-in-Some : goal.returns-in-Some

@@ -5,8 +5,8 @@ use Rattle.query_plan.specs.Made.{stage_of}
 use Rattle.fleet_tables.specs.table_machine.Rows.{table_rows}
 use Rattle.query_rows.specs.Tables.{world_of}
 use Rattle.query_rows.specs.Tries.{HasTried}
-use Rattle.query_engine.proofs.PlacedRows.{picked}
-use Rattle.query_engine.proofs.choose.chosen_of.Given as goal
+use Rattle.query_engine.specs.Fetched.{picked}
+use Rattle.query_engine.proofs.choose.read_places.Given as goal
 
 abbrev pub invariant-reading : goal.invariant-reading
 invariant-reading g l =
@@ -18,6 +18,6 @@ invariant-reading g l =
       calm : g.P.Patterns.refusals l.patterns ≡ g.P.Patterns.refusals l.initial.patterns;
       silent : g.P.Patterns.asked l.patterns ≡ g.P.Patterns.asked l.initial.patterns;
       tried : HasTried (g.P.Patterns.course l.initial.patterns) (g.P.Patterns.course l.patterns);
-      cost : l.walk ≤ l.initial.walk + l.i * (1 + length l.names);
-      rest : l.chosen ++ filter test (picked rows (drop l.i l.places.items)) ≡ filter test rows;
+      cost : l.walk ≤ l.initial.walk + l.place-index * (1 + length l.names);
+      rest : l.chosen ++ filter test (picked rows (drop l.place-index l.places)) ≡ filter test (picked rows l.places);
     }
