@@ -41,6 +41,10 @@ pub if_false : {A : Type 0} (b : Bool) (x y : A) → b ≡ false → (if b then 
 if_false true x y h = absurd (let apart : true ≡ false = h in cc)
 if_false false x y h = refl
 
+pub either : {A : Type 0} (P : A → Type 0) (b : Bool) (x y : A) → P x → P y → P (if b then x else y)
+either P true x y p q = p
+either P false x y p q = q
+
 -- ---- no test comes out both ways
 
 pub no_truth : {P : Type 0} → false ≡ true → P

@@ -1,6 +1,7 @@
 -- What is known of an option or a result whose outcome is known.
 use Rattle.std.proofs.Common.{◌≡◌, ◌∙◌, refl, sym, Bool, true, false, Option, Some, None, Result, Ok, Err, if◌then◌else◌}
 use Rattle.std.specs.Prelude.{is_err, OnOk}
+use Rattle.std.specs.Option.{option_map}
 
 pub none_some : {A P : Type 0} (a : A) → None ≡ Some a → P
 none_some a h = absurd (never h)
@@ -16,6 +17,10 @@ some_is a b h = cc
 
 pub some_same : {A : Type 0} (a b : A) → Some a ≡ Some b → b ≡ a
 some_same a b h = cc
+
+pub mapped_some : {A B : Type 0} (f : A → B) (o : Option A) (y : B) → option_map f o ≡ Some y → (x : A) × (o ≡ Some x) × (f x ≡ y)
+mapped_some f (Some x) y e = (x, refl, cc)
+mapped_some f None y e = none_some y e
 
 -- a choice, by cases
 pub choose : {A : Type 0} (c : Bool) (x y z : Option A) (P : Type 0) → (if c then x else y) ≡ z → (c ≡ true → x ≡ z → P) → (c ≡ false → y ≡ z → P) → P
