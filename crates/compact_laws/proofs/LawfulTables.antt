@@ -1,9 +1,10 @@
 -- Tables stay such that their checkpoint has a spelling, whatever commands, marks and sweeps come.
-use Rattle.std.proofs.Common.{ℕ, ℤ, ◌-◌, nat_lt, int_lt, length, List, [], ◌∷◌, ◌++◌, map, Bool, true, false, ◌&&◌, not, cond, if◌then◌else◌, Option, Some, None}
+use Rattle.std.proofs.Common.{ℕ, ℤ, ◌-◌, nat_lt, int_lt, length, List, [], ◌∷◌, ◌++◌, map, Bool, true, false, ◌&&◌, not, cond, Option, Some, None}
 use Rattle.std.specs.List.{AllByRecursion, filter, flat_map, list_any}
 use Rattle.std.specs.Ordering.{match_ordering, is_lt}
 use Rattle.std.specs.declared.cmp.Ordering.{Ordering}
 use Rattle.std.specs.declared.cmp.Ordering.TheVariants.{Less, Equal, Greater}
+use Rattle.core_laws.proofs.of_checkpoint_spec.of_plain_laws.Booleans.{either}
 use Rattle.core_laws.proofs.of_checkpoint_spec.of_plain_laws.Members.{All-Among, All-from_Among}
 use Rattle.core_laws.proofs.of_checkpoint_spec.of_table_laws.SortedLists.{among-from_sorted_by}
 use Rattle.core_laws.specs.checkpoint_spec.fleet_rows.Change.{change_certname, change_stamp}
@@ -46,11 +47,7 @@ stamp_of (change.Report c) h = h.stamp
 stamp_of (change.Deactivate c) h = h.stamp
 stamp_of (change.Expiration c) h = h.stamp
 
--- ---- choices and lists
-
-either : {X : Type 0} (P : X → Type 0) (b : Bool) (x y : X) → P x → P y → P (if b then x else y)
-either P true x y h k = h
-either P false x y h k = k
+-- ---- lists
 
 module _ {X : Type 0} (P : X → Type 0) where
   pub all_append : (xs ys : List X) → AllByRecursion P xs → AllByRecursion P ys → AllByRecursion P (xs ++ ys)

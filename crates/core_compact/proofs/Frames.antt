@@ -1,8 +1,6 @@
 -- Frames one behind the other, and what is read off them.
-use Rattle.std.proofs.Common.{◌≡◌, ◌∙◌, ℕ, ◌+◌, zero, suc, List, [], ◌∷◌, ◌++◌, map, drop, slice_get, refl, sym, ap, subst, append_assoc, arith, Option, Some, None, Result, Ok, Err, IfOk}
-use Rattle.std.specs.List.{AllByRecursion}
+use Rattle.std.proofs.Common.{◌≡◌, ◌∙◌, ℕ, ◌+◌, suc, List, [], ◌∷◌, ◌++◌, map, drop, slice_get, sym, ap, subst, append_assoc, arith, Some, Result, Ok, Err, IfOk}
 use Rattle.supersede_core.proofs.of_plain_laws.Lists.{left_at, map_both}
-use Rattle.supersede_core.proofs.of_plain_laws.Options.{some_is}
 use Rattle.core_state.specs.record_spec.declared.queue.QueueRecord.{QueueRecord}
 use Rattle.core_state.specs.record_spec.declared.queue.QueueRecord.TheVariants as queue
 use Rattle.core_state.specs.record_spec.Queue.{queue_text}
@@ -12,13 +10,6 @@ use Rattle.core_state.specs.core_spec.Checkpoints.{held, dead}
 use Rattle.core_state.specs.queue_records.Reading.{queue_at}
 use Rattle.core_compact.specs.Anew.{AreRead, AreFramesOf}
 use Rattle.core_compact.specs.Compacts.{queue_records_of}
-
--- ---- lists by places
-
-pub all_at : {X : Type 0} (P : X → Type 0) (xs : List X) (i : ℕ) (x : X) → AllByRecursion P xs → slice_get xs i ≡ Some x → P x
-all_at {X} P [] i x all h = absurd (let none : ◌≡◌ {A = Option X} None (Some x) = h in cc)
-all_at P (y ∷ xs) zero x all h = subst P (some_is y x h) all.0
-all_at P (y ∷ xs) (suc i) x all h = all_at P xs i x all.1 h
 
 -- a frame with what is read off it
 pub with_read : {X E : Type 0} (r : Result X E) (x : X) (P : Type 0) → IfOk r (λ y. y ≡ x) → P → IfOk r (λ y. (y ≡ x) × P)

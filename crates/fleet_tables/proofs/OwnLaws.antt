@@ -5,6 +5,7 @@ use Rattle.std.specs.List.{AllByRecursion, filter, list_any}
 use Rattle.std.specs.Ordering.{is_lt, match_ordering}
 use Rattle.std.specs.declared.cmp.Ordering.{Ordering}
 use Rattle.std.specs.declared.cmp.Ordering.TheVariants.{Less, Equal, Greater}
+use Rattle.checkpoint_spec.proofs.of_plain_laws.Booleans.{either}
 use Rattle.checkpoint_spec.proofs.of_history_laws.SortedTexts.{text_tied}
 use Rattle.checkpoint_spec.specs.fleet_rows.Change.{change_certname}
 use Rattle.checkpoint_spec.specs.fleet_rows.Rank.{rank_cmp}
@@ -26,10 +27,6 @@ use Rattle.kept_nodes.specs.Owned.{IsOf, IsOwn}
 use Rattle.kept_nodes.specs.Places.{left_by_purge}
 
 -- ---- what holds of each element
-
-either : {A : Type 0} (P : A → Type 0) (b : Bool) (x y : A) → P x → P y → P (if b then x else y)
-either P true x y p q = p
-either P false x y p q = q
 
 filter_step : {A : Type 0} (P : A → Type 0) (b : Bool) (x : A) (xs : List A) → P x → AllByRecursion P xs → AllByRecursion P (if b then x ∷ xs else xs)
 filter_step P true x xs p h = (p, h)

@@ -1,6 +1,6 @@
 -- In a sorted list the elements that compare as equal to what is sought stand together: their run begins behind those that are
 -- below it. How many these are doesn't depend on the order.
-use Rattle.std.proofs.Common.{◌≡◌, ◌∙◌, ℕ, zero, suc, ◌+◌, ◌<◌, ◌≤◌, List, [], ◌∷◌, Bool, true, false, length, take, map, slice_get, Option, Some, None, refl, sym, ap, subst, arith, add-one, if◌then◌else◌}
+use Rattle.std.proofs.Common.{◌≡◌, ◌∙◌, ℕ, zero, suc, ◌+◌, ◌<◌, ◌≤◌, List, [], ◌∷◌, Bool, true, false, length, take, map, slice_get, Some, refl, sym, ap, arith, add-one, if◌then◌else◌}
 use Rattle.std.specs.Prelude.{filter}
 use Rattle.std.specs.Option.{option_map}
 use Rattle.std.specs.Cmp.{IsTotalOrder}
@@ -10,6 +10,8 @@ use Rattle.std.specs.declared.cmp.Ordering.{Ordering}
 use Rattle.std.specs.declared.cmp.Ordering.TheVariants.{Less, Equal, Greater}
 use Rattle.std.proofs.lemmas.Cmp.{alike_right, upto}
 use Rattle.std.proofs.lemmas.List.{length-map}
+use Rattle.checkpoint_spec.proofs.of_plain_laws.Members.{all_at, all_as}
+use Rattle.checkpoint_spec.proofs.of_plain_laws.Options.{mapped_some}
 use Rattle.checkpoint_spec.specs.table_spec.Sorted.{insert_by, sorted_by}
 use Rattle.kept_nodes.specs.Runs.{number, as_one, is_before}
 use Rattle.kept_nodes.specs.Spans.{places_from, neighbours, IsSpanOf}
@@ -17,11 +19,6 @@ use Rattle.kept_nodes.specs.declared.wanted.Span.{Span}
 use Rattle.kept_nodes.proofs.PlaceLaws.{no_places}
 
 -- ---- numbers
-
-all_there : {A : Type 0} (P : A → Type 0) (xs : List A) (j : ℕ) (x : A) → AllByRecursion P xs → slice_get xs j ≡ Some x → P x
-all_there P [] j x h e = cc
-all_there P (y ∷ ys) zero x h e = let same : y ≡ x = cc in subst P same h.0
-all_there P (y ∷ ys) (suc j) x h e = all_there P ys j x h.1 e
 
 module _ {A : Type 0} (test : A → Bool) where
   no_number : (xs : List A) → AllByRecursion (λ x. test x ≡ false) xs → number test xs ≡ 0
@@ -101,7 +98,7 @@ module _ {A : Type 0} (test : A → Bool) where
   passing_step : (b : Bool) (y x : A) (ys : List A) (j : ℕ) → test y ≡ b → (test y ≡ false → AllByRecursion (λ z. test z ≡ false) ys) → slice_get ys j ≡ Some x → test x ≡ true
       → j < number test ys → suc j < length (if b then y ∷ filter test ys else filter test ys)
   passing_step true y x ys j is f e t h = omega (arith, h)
-  passing_step false y x ys j is f e t h = let no = all_there (λ z. test z ≡ false) ys j x (f is) e in absurd (let apart : true ≡ false = sym t ∙ no in cc)
+  passing_step false y x ys j is f e t h = let no = all_at (λ z. test z ≡ false) ys j x (f is) e in absurd (let apart : true ≡ false = sym t ∙ no in cc)
 
   -- what passes stands before their number
   pub passing_within : (xs : List A) (j : ℕ) (x : A) → Falls xs → slice_get xs j ≡ Some x → test x ≡ true → j < number test xs
@@ -171,10 +168,6 @@ not_before true Greater q h n = ap is_le n
 not_before false Less q h n = cc
 not_before false Equal q h n = n
 not_before false Greater q h n = ap is_lt n
-
-all_as : {A : Type 0} (P Q : A → Type 0) (xs : List A) → ((x : A) → P x → Q x) → AllByRecursion P xs → AllByRecursion Q xs
-all_as P Q [] f h = tt
-all_as P Q (x ∷ xs) f h = (f x h.0, all_as P Q xs f h.1)
 
 module _ {A : Type 0} (rank : A → Ordering) where
   abbrev pub Ranked : List A → Type 0
@@ -271,10 +264,6 @@ module _ {A : Type 0} (rank : A → Ordering) where
       )
 
 -- ---- an index in an order that is kept
-
-pub mapped_some : {A B : Type 0} (f : A → B) (o : Option A) (y : B) → option_map f o ≡ Some y → (x : A) × (o ≡ Some x) × (f x ≡ y)
-mapped_some f None y e = cc
-mapped_some f (Some x) y e = (x, refl, cc)
 
 sorted_at : {A : Type 0} (xs : List A) (order : List ℕ) (sorted : List A) (j place : ℕ) (x : A) → map (slice_get xs) order ≡ map Some sorted → slice_get order j ≡ Some place → slice_get xs place ≡ Some x → slice_get sorted j ≡ Some x
 sorted_at xs [] sorted j place x e o h = cc

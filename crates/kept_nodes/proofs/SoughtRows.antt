@@ -10,7 +10,7 @@ use Rattle.std.proofs.lemmas.Cmp.{on_total, then_total, nat_list_cmp_total, tied
 use Rattle.std.proofs.lemmas.List.{length-map}
 use Rattle.std.proofs.lemmas.Map.Text.{is_eq-slice_cmp}
 use Rattle.checkpoint_spec.proofs.of_history_laws.SortedTexts.{text_cmp_total}
-use Rattle.checkpoint_spec.proofs.of_plain_laws.Members.{all_both}
+use Rattle.checkpoint_spec.proofs.of_plain_laws.Members.{all_both, all_mapped}
 use Rattle.checkpoint_spec.specs.fleet_rows.Change.{change_certname}
 use Rattle.checkpoint_spec.specs.fleet_rows.declared.applied.Applied.{Applied}
 use Rattle.checkpoint_spec.specs.fleet_rows.declared.catalog.CatalogChange.{CatalogChange}
@@ -46,10 +46,6 @@ use Rattle.kept_nodes.proofs.RunLaws.{NotBelow, number_sorted, ranked_sorted, ra
 
 abbrev pub IsNamed : Entity → List ℕ → Cells → Type 0
 IsNamed entity certname row = cell_under (columns entity) (codes "certname") row ≡ text_cell certname
-
-all_mapped : {A B : Type 0} (P : B → Type 0) (f : A → B) (xs : List A) → ((x : A) → P (f x)) → AllByRecursion P (map f xs)
-all_mapped P f [] h = tt
-all_mapped P f (x ∷ xs) h = (h x, all_mapped P f xs h)
 
 module _ (certname : List ℕ) where
   abbrev Named : Entity → List Cells → Type 0

@@ -15,6 +15,7 @@ use Rattle.clap.specs.Values.{kind_of}
 use Rattle.clap.specs.declared.error.Error.{Error}
 use Rattle.clap.specs.declared.error.kind.ErrorKind.TheVariants.{OutOfMemory}
 use Rattle.clap.specs.declared.parser.matches.ArgMatches.{ArgMatches}
+use Rattle.spool_spec.proofs.of_plain_laws.Options.{some_is}
 use Rattle.program_words.specs.Words.{Word, Split, IsSplit, alone}
 use Rattle.program_words.specs.Scanning.{takes_at, parts, read_from, HasValues}
 use Rattle.program_words.specs.Made.{all, verbs, is_verb, Names}
@@ -81,9 +82,6 @@ asked_names (word ∷ words) met (Some p) lone texts is keeps =
     let pair = few_pair (few found.0) word (p.0.now, split_of p.1) (sym (keeps word found.2.0 found.0 found.2.1 found.2.2)) in
     let same : found.0 ≡ split_of p.1 = few_was found.0 (split_of p.1) pair.0 in
     (pair.1, is.0, subst (λ (s : Split). IsSplit words s) same (read_is_split (takes_at word) words found.0 (sym (lone word words refl)) (texts word words refl) found.1))
-
-some_is : (a b : Split) → Some a ≡ Some b → a ≡ b
-some_is a b e = cc
 
 valued : (word verb : Word) (split : Split) → word ≡ verb → HasValues (takes_at verb) split → HasValues (takes_at word) split
 valued word verb split same has = subst (λ (w : Word). HasValues (takes_at w) split) (sym same) has

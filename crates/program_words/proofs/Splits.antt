@@ -2,6 +2,7 @@
 use Rattle.std.proofs.Common.{◌≡◌, ◌∙◌, inl, inr, List, [], ◌∷◌, ◌++◌, flat_map, ◌||◌, Bool, true, false, cond, Option, Some, None, codes, append_assoc, append-nil, refl, sym, ap, subst, true≢false, length, ◌≤◌, nat_lt}
 use Rattle.std.specs.Prelude.{option_map, option_and_then}
 use Rattle.std.specs.Str.{bytes_eq, IsUtf8}
+use Rattle.spool_spec.proofs.of_plain_laws.Options.{some_is}
 use Rattle.program_words.specs.Words.{Word, Name, serve_option, links_option, name_word, Part, plain_word, apart, in_one, part_words, is_dashed, AreParts, value_for, values_in, plain_in, ending, behind, listed, Split, IsSplit, alone}
 use Rattle.program_words.specs.Scanning.{Look, ends, names, refused, other, look, Mode, value_of, set_value, first_value, with_value, with_plain, goes_on, look_step, finish, read_from, has_lone, Texts, IsUndashed, HasValues, Takes}
 use Rattle.program_words.specs.Scanning as mode
@@ -110,9 +111,6 @@ went : (t : Takes) (o : Option (Mode × Split)) (words : List Word) (split : Spl
     → (n : Mode × Split) × (o ≡ Some n) × (read_from t n.0 n.1 words ≡ Some split)
 went t None words split e = absurd (cc)
 went t (Some n) words split e = (n, refl, e)
-
-some_is : {X : Type 0} (a b : X) → Some a ≡ Some b → a ≡ b
-some_is a b e = cc
 
 first_by : (had : Option Word) (name : Name) (v : Word) (told : Split) (n : Mode × Split) → goes_on (first_value had name v told) ≡ Some n
     → (had ≡ None) × (n ≡ (mode.parts, set_value name v told))

@@ -1,8 +1,8 @@
 -- In tables each certname, each name of a fact, each type and title of a resource is a text.
-use Rattle.std.proofs.Common.{◌≡◌, ℕ, ℤ, List, [], ◌∷◌, map, Option, Some, None, refl}
+use Rattle.std.proofs.Common.{◌≡◌, ℕ, ℤ, List, [], ◌∷◌, Option, Some, None, refl}
 use Rattle.std.specs.Prelude.{codes, flat_map}
 use Rattle.std.specs.List.{AllByRecursion}
-use Rattle.fleet_tables.proofs.of_plain_laws.Members.{all_both}
+use Rattle.fleet_tables.proofs.of_plain_laws.Members.{all_both, all_mapped}
 use Rattle.fleet_tables.specs.fleet_rows.declared.applied.Applied.{Applied}
 use Rattle.fleet_tables.specs.fleet_rows.declared.change.Change.{Change}
 use Rattle.fleet_tables.specs.fleet_rows.declared.change.Change.TheVariants as change
@@ -24,10 +24,6 @@ IsTextIn e column row = (s : List ℕ) × (cell_under (columns e) column row ≡
 
 abbrev AreTextsIn : Entity → List ℕ → List Cells → Type 0
 AreTextsIn e column rows = AllByRecursion (IsTextIn e column) rows
-
-all_mapped : {A B : Type 0} (P : B → Type 0) (f : A → B) (xs : List A) → ((x : A) → P (f x)) → AllByRecursion P (map f xs)
-all_mapped P f [] h = tt
-all_mapped P f (x ∷ xs) h = (h x, all_mapped P f xs h)
 
 all_joined : {A B : Type 0} (P : B → Type 0) (f : A → List B) (xs : List A) → ((x : A) → AllByRecursion P (f x)) → AllByRecursion P (flat_map f xs)
 all_joined P f [] h = tt

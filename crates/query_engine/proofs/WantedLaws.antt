@@ -2,7 +2,7 @@
 use Rattle.std.proofs.Common.{◌≡◌, ◌∙◌, ℕ, List, [], ◌∷◌, Bool, true, false, ◌&&◌, Option, Some, None, refl, sym, ap}
 use Rattle.std.specs.Prelude.{codes}
 use Rattle.std.specs.Borrow.{Bor}
-use Rattle.std.specs.List.{AllByRecursion}
+use Rattle.fleet_tables.proofs.of_plain_laws.Members.{all_as}
 use Rattle.fleet_tables.specs.Wanted.{has_own, is_wanted, texts_of, text_in}
 use Rattle.fleet_tables.specs.kept_nodes.declared.wanted.Wanted.{Wanted}
 use Rattle.fleet_tables.specs.kept_nodes.declared.wanted.WantedResource.{WantedResource}
@@ -28,10 +28,6 @@ and-false : (a : Bool) → (a && false) ≡ false
 and-false true = refl
 and-false false = refl
 
-pub all_so : {A : Type 0} (P Q : A → Type 0) (xs : List A) → ((x : A) → P x → Q x) → AllByRecursion P xs → AllByRecursion Q xs
-all_so P Q [] h t = tt
-all_so P Q (x ∷ xs) h t = (h x t.0, all_so P Q xs h t.1)
-
 -- ---- no row shows different texts
 
 abbrev pub AreDifferent : List (List ℕ) → Type 0
@@ -44,7 +40,7 @@ none_shows e column texts h row there = ap (is_each texts) there.1 ∙ h there.0
 
 pub no_fact : (ps : List Pin) → AreDifferent (demanded (codes "name") ps) → IsOwnBy Facts ps None
 no_fact ps h = λ table.
-    all_so (IsTextIn Facts (codes "name")) (λ row. shows_own (Some Facts) ps row ≡ false) (table_rows Facts table) (none_shows Facts (codes "name") (demanded (codes "name") ps) h) (names_are_texts table)
+    all_as (IsTextIn Facts (codes "name")) (λ row. shows_own (Some Facts) ps row ≡ false) (table_rows Facts table) (none_shows Facts (codes "name") (demanded (codes "name") ps) h) (names_are_texts table)
 
 pub any_fact : (ps : List Pin) (w : Wanted) → demanded (codes "name") ps ≡ [] → w.name ≡ None → IsOwnBy Facts ps (Some w)
 any_fact ps w none name = λ row.
@@ -64,7 +60,7 @@ titles ps = demanded (codes "title") ps
 
 pub no_type : (ps : List Pin) → AreDifferent (types ps) → IsOwnBy Resources ps None
 no_type ps h = λ table.
-    all_so (IsTextIn Resources (codes "type")) (λ row. shows_own (Some Resources) ps row ≡ false) (table_rows Resources table)
+    all_as (IsTextIn Resources (codes "type")) (λ row. shows_own (Some Resources) ps row ≡ false) (table_rows Resources table)
     (λ row there. ap (λ b. b && shows (Some Resources) (codes "title") (beside (types ps) (titles ps)) row) (none_shows Resources (codes "type") (types ps) h row there))
     (types_are_texts table)
 
@@ -75,7 +71,7 @@ beside_is rtype (t ∷ ts) us only = refl
 
 pub no_title : (ps : List Pin) (rtype : List ℕ) → IsOnly rtype (types ps) → AreDifferent (titles ps) → IsOwnBy Resources ps None
 no_title ps rtype only h = λ table.
-    all_so (IsTextIn Resources (codes "title")) (λ row. shows_own (Some Resources) ps row ≡ false) (table_rows Resources table)
+    all_as (IsTextIn Resources (codes "title")) (λ row. shows_own (Some Resources) ps row ≡ false) (table_rows Resources table)
     (λ row there.
     ap (λ us. shows (Some Resources) (codes "type") (types ps) row && shows (Some Resources) (codes "title") us row) (beside_is rtype (types ps) (titles ps) only)
     ∙ ap (λ b. shows (Some Resources) (codes "type") (types ps) row && b) (none_shows Resources (codes "title") (titles ps) h row there)
@@ -109,13 +105,13 @@ titled_resource ps w rtype title o only same is t u = λ row.
 
 pub none_wanted : (e : Entity) (ps : List Pin) → IsOwnBy e ps None → IsWantedBy e ps None
 none_wanted e ps h = λ table.
-    all_so (λ row. shows_own (Some e) ps row ≡ false) (λ row. is_found (Some e) ps row ≡ false) (table_rows e table)
+    all_as (λ row. shows_own (Some e) ps row ≡ false) (λ row. is_found (Some e) ps row ≡ false) (table_rows e table)
     (λ row own. ap (λ b. shows (Some e) (codes "certname") (demanded (codes "certname") ps) row && b) own ∙ and-false (shows (Some e) (codes "certname") (demanded (codes "certname") ps) row))
     (h table)
 
 pub no_certname : (e : Entity) (ps : List Pin) → AreDifferent (demanded (codes "certname") ps) → IsWantedBy e ps None
 no_certname e ps h = λ table.
-    all_so (IsTextIn e (codes "certname")) (λ row. is_found (Some e) ps row ≡ false) (table_rows e table)
+    all_as (IsTextIn e (codes "certname")) (λ row. is_found (Some e) ps row ≡ false) (table_rows e table)
     (λ row there. ap (λ b. b && shows_own (Some e) ps row) (none_shows e (codes "certname") (demanded (codes "certname") ps) h row there))
     (certnames_are_texts e table)
 

@@ -1,9 +1,8 @@
 -- A text and a reader that belong together: what is read was spelled so, and what is spelled so is read again.
 use Rattle.std.proofs.Common.{◌≡◌, ℕ, suc, ◌+◌, ◌<◌, Bool, true, false, cond, eqb, List, [], ◌∷◌, ◌++◌, length, get_or, take, drop, Option, Some, None, refl, sym, ap, subst, ◌∙◌, append_assoc, arith, inl, inr}
-use Rattle.std.specs.Option.{option_map}
 use Rattle.std.proofs.lemmas.Bool.{cases_lt, eqb-true}
 use Rattle.std.proofs.lemmas.List.{length-take, get_or-drop, get_or-take, get_or_past, append-nil, nil_from_length}
-pub use Rattle.record_spec.proofs.of_plain_laws.Options.{some_is}
+pub use Rattle.record_spec.proofs.of_plain_laws.Options.{some_is, mapped_some}
 use Rattle.record_fields.specs.Reading.{◌>>=◌, Reader, read_as, ended}
 
 -- ---- bytes
@@ -40,10 +39,6 @@ guard_some false x y e = (refl, cc)
 pub test_some : {A : Type 0} (b : Bool) (o : Option A) (y : A) → cond b o None ≡ Some y → (b ≡ true) × (o ≡ Some y)
 test_some true o y e = (refl, e)
 test_some false o y e = absurd cc
-
-pub mapped_some : {A B : Type 0} (f : A → B) (o : Option A) (y : B) → option_map f o ≡ Some y → (x : A) × (o ≡ Some x) × (f x ≡ y)
-mapped_some f (Some x) y e = (x, refl, cc)
-mapped_some f None y e = absurd cc
 
 pub ended_some : {A : Type 0} (x y : A) (rest : List ℕ) → ended x rest ≡ Some y → (rest ≡ []) × (x ≡ y)
 ended_some x y rest e =

@@ -1,10 +1,11 @@
 use Rattle.std.proofs.Common.{◌≡◌, ◌∙◌, ◌++◌, [], ◌∷◌, ◌≤◌, ◌<◌, ◌+◌, List, ℕ, drop, length, map, append-nil, arith, sym, ap, subst}
 use Rattle.std.proofs.lemmas.List.{drop_all}
+use Rattle.supersede_core.proofs.of_plain_laws.Members.{all_at}
 use Rattle.core_state.specs.core_spec.declared.dead.Dead.{Dead}
 use Rattle.core_state.specs.core_spec.Checkpoints.{dead}
 use Rattle.core_state.specs.Seen.{IsFit}
 use Rattle.core_compact.specs.Anew.{AreRead}
-use Rattle.core_compact.proofs.Frames.{all_at, texts, next_frame, next_read}
+use Rattle.core_compact.proofs.Frames.{texts, next_frame, next_read}
 use Rattle.core_compact.proofs.queue.push_dead.Goals as goal
 
 pub dead_frame-requires : goal.dead_frame-requires

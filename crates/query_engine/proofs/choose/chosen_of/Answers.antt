@@ -10,7 +10,7 @@ use Rattle.query_engine.proofs.JoinLaws.{chosen_is_of}
 use Rattle.query_engine.proofs.PlacedRows.{cost_within}
 use Rattle.query_engine.proofs.ReadLaws.{read_so, read_within, read_few, read_all}
 use Rattle.query_engine.proofs.TextCells.{IsTextIn, certnames_are_texts}
-use Rattle.query_engine.proofs.WantedLaws.{all_so}
+use Rattle.fleet_tables.proofs.of_plain_laws.Members.{all_as}
 use Rattle.query_engine.proofs.choose.chosen_of.Goals as goal
 
 pub read_places-requires-clause-places : goal.read_places-requires-clause-places
@@ -40,6 +40,6 @@ returns-clause-value g c =
     IfOk-weaker c.read_places.result _ _
     (λ lines h. h
     ∙ read_all e c.args.pins.now nodes rows _ (is_chosen w ps c.args.found.now s) c.requires.implied c.args.nodes.now.joined
-    (λ on. all_so (IsTextIn e (codes "certname")) (λ row. is_chosen w ps c.args.found.now s row ≡ true → is_of e nodes row ≡ true) rows (chosen_is_of w ps c.args.found.now s e nodes c.requires.entity (c.requires.joined on)) (certnames_are_texts e c.args.tables.now))
+    (λ on. all_as (IsTextIn e (codes "certname")) (λ row. is_chosen w ps c.args.found.now s row ≡ true → is_of e nodes row ≡ true) rows (chosen_is_of w ps c.args.found.now s e nodes c.requires.entity (c.requires.joined on)) (certnames_are_texts e c.args.tables.now))
     (read_so c.args.nodes.now.joined e _ c.args.pins.now nodes rows _ _ c.as_slice.ensures c.as_slice-2.ensures.value c.in_ok-places.ensures))
     c.read_places.ensures.value
