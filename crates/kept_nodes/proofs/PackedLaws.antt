@@ -1,12 +1,13 @@
 -- The lists of a report can be packed, and a packed report is the report.
-use Rattle.std.proofs.Common.{◌≡◌, ◌∙◌, ℕ, ℤ, ◌≤◌, List, [], ◌∷◌, Option, IfSome, sym, ap, subst, arith, lit≤}
-use Rattle.std.specs.List.{AllByRecursion}
-use Rattle.checkpoint_spec.specs.text_spec.Json.{Json, array, items_of, levels, items_levels}
-use Rattle.packed_values.specs.json_machine.Values.{IsValue, AreValues}
+use Rattle.std.proofs.Common.{◌≡◌, ◌∙◌, ℕ, ℤ, ◌≤◌, List, [], Option, IfSome, sym, ap, subst, arith, lit≤}
+use Rattle.checkpoint_spec.proofs.of_table_machine.ReportColumns.{are_values}
+use Rattle.checkpoint_spec.proofs.of_table_laws.PrintedCells.{items_most}
+use Rattle.checkpoint_spec.specs.text_spec.Json.{Json, array, items_of, levels}
+use Rattle.packed_values.specs.json_machine.Values.{IsValue}
 use Rattle.checkpoint_spec.specs.fleet_rows.declared.change.Change.TheVariants as change
 use Rattle.checkpoint_spec.specs.fleet_rows.declared.change.ReportChange.{ReportChange}
 use Rattle.checkpoint_spec.specs.stamp_time.Range.{IsStampMoment}
-use Rattle.checkpoint_spec.specs.history_spec.Lawful.{IsJson, IsList}
+use Rattle.checkpoint_spec.specs.history_spec.Lawful.{IsList}
 use Rattle.checkpoint_spec.specs.history_spec.Report.{report_object}
 use Rattle.checkpoint_spec.specs.history_spec.Trace.{applied_as}
 use Rattle.checkpoint_spec.specs.table_spec.Cells.{hash}
@@ -17,19 +18,11 @@ use Rattle.kept_nodes.specs.Seen.{report_seen}
 
 -- ---- a list of JSON values as an array
 
-are_values : (most : ℕ) (js : List Json) → AllByRecursion (IsJson most) js → AreValues (items_of js)
-are_values most [] all = tt
-are_values most (j ∷ js) all = (all.0.value, are_values most js all.1)
-
-are_within : (most : ℕ) (js : List Json) → AllByRecursion (IsJson most) js → items_levels (items_of js) ≤ most
-are_within most [] all = omega arith
-are_within most (j ∷ js) all = let first = all.0.levels in let rest = are_within most js all.1 in omega (arith, first, rest)
-
 pub list_values : (js : List Json) → IsList js → IsValue (array (items_of js))
 list_values js is = are_values 125 js is.elements
 
 pub list_levels : (js : List Json) → IsList js → levels (array (items_of js)) ≤ 127
-list_levels js is = let within = are_within 125 js is.elements in omega (arith, within)
+list_levels js is = let within = items_most 125 js is.elements in omega (arith, within)
 
 pub none_values : (js : List Json) → js ≡ [] → IsValue (array (items_of js))
 none_values js none = subst (λ (ks : List Json). IsValue (array (items_of ks))) (sym none) tt

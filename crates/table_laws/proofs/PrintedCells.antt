@@ -65,7 +65,7 @@ printed_number n (Some m) h = (number_is_value (Some m) h, omega arith)
 pub printed_json : (n most : ℕ) (j : Json) → most ≤ n → IsJson most j → IsPrintable n (plain j)
 printed_json n most j h k = (k.value, let few = k.levels in omega (arith, few))
 
-items_most : (most : ℕ) (js : List Json) → AllByRecursion (IsJson most) js → items_levels (items_of js) ≤ most
+pub items_most : (most : ℕ) (js : List Json) → AllByRecursion (IsJson most) js → items_levels (items_of js) ≤ most
 items_most most [] h = omega arith
 items_most most (j ∷ js) h = let first = h.0.levels in let rest = items_most most js h.1 in omega (arith, first, rest)
 
