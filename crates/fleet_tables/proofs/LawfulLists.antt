@@ -26,8 +26,7 @@ use Rattle.checkpoint_spec.proofs.of_table_laws.RowNodes.{life_is_lawful}
 use Rattle.checkpoint_spec.proofs.of_table_laws.SortedLists.{among-from_sorted_by}
 use Rattle.fleet_tables.specs.Listed.{HasMoment, HasLawfulChange, IsLawfulList}
 use Rattle.fleet_tables.specs.Stands.{Stands}
-use Rattle.checkpoint_spec.proofs.of_history_laws.Moments.{later_is_stamp}
-use Rattle.fleet_tables.proofs.NodeOrder.{has_stamp_moment}
+use Rattle.checkpoint_spec.proofs.of_history_laws.Moments.{has_stamp_moment, later_is_stamp}
 
 -- ---- the greatest of moments
 

@@ -1,16 +1,11 @@
--- Nodes stay in order, and a change has a moment of a stamp.
+-- Nodes stay in order.
 use Rattle.std.proofs.Common.{ℤ, List, [], ◌∷◌, map, Option, Bool, true, false, not, cond}
 use Rattle.std.specs.Cmp.{IsTotalOrder}
 use Rattle.std.specs.List.{filter}
 use Rattle.std.specs.List.Sorted.{IsStrictlySortedBy}
 use Rattle.std.proofs.lemmas.Cmp.{on_total}
-use Rattle.checkpoint_spec.specs.fleet_rows.Change.{change_certname, change_stamp}
-use Rattle.checkpoint_spec.specs.fleet_rows.declared.change.Change.{Change}
-use Rattle.checkpoint_spec.specs.fleet_rows.declared.change.Change.TheVariants as change
+use Rattle.checkpoint_spec.specs.fleet_rows.Change.{change_certname}
 use Rattle.checkpoint_spec.specs.fleet_rows.declared.settings.Ttls.{Ttls}
-use Rattle.checkpoint_spec.proofs.of_stamp_time.RangeLaws.{stamp_in_range}
-use Rattle.checkpoint_spec.specs.stamp_time.Range.{IsStampMoment}
-use Rattle.checkpoint_spec.specs.history_spec.Lawful.{IsChange}
 use Rattle.checkpoint_spec.specs.fleet_rows.declared.applied.Applied.{Applied}
 use Rattle.checkpoint_spec.proofs.of_history_laws.Members.{Among-from_filter}
 use Rattle.checkpoint_spec.proofs.of_history_laws.SortedTexts.{text_cmp_total}
@@ -20,8 +15,6 @@ use Rattle.checkpoint_spec.specs.table_machine.Steps.{empty_node, with_applied, 
 use Rattle.checkpoint_spec.proofs.of_table_machine.Risen.{sorted-put}
 use Rattle.checkpoint_spec.specs.table_machine.Node.{node_purged}
 use Rattle.kept_nodes.specs.Places.{left_by_purge}
-
--- ---- nodes stay in order
 
 node_cmp_total : IsTotalOrder node_cmp
 node_cmp_total = on_total (λ (n : Node). n.certname) text_cmp_total
@@ -43,12 +36,3 @@ purged_in_order ttls m expiry nodes s = filtered_in_order (λ node. not (node_pu
 
 pub retained_in_order : (ttls : Ttls) (retention : Option ℤ) (nodes : List Node) → IsStrictlySortedBy node_cmp nodes → IsStrictlySortedBy node_cmp (map (with_retained ttls retention) nodes)
 retained_in_order ttls retention nodes s = sorted-map node_cmp node_cmp (with_retained ttls retention) (λ x y h. h) nodes s
-
--- ---- a change has a stamp's moment
-
-pub has_stamp_moment : (c : Change) → IsChange c → IsStampMoment (change_stamp c)
-has_stamp_moment (change.Facts c) h = stamp_in_range h.stamp.0 c.stamp h.stamp.1
-has_stamp_moment (change.Catalog c) h = stamp_in_range h.stamp.0 c.stamp h.stamp.1
-has_stamp_moment (change.Report c) h = stamp_in_range h.stamp.0 c.stamp h.stamp.1
-has_stamp_moment (change.Deactivate c) h = stamp_in_range h.stamp.0 c.stamp h.stamp.1
-has_stamp_moment (change.Expiration c) h = stamp_in_range h.stamp.0 c.stamp h.stamp.1

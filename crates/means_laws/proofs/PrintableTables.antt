@@ -22,7 +22,7 @@ use Rattle.table_laws.specs.history_spec.Lawful.{HasStamp, IfMoment, IsChange}
 use Rattle.table_laws.specs.history_spec.Life.{life, nodes, kept_reports, greatest_expiry}
 use Rattle.table_laws.specs.history_spec.Node.{later, newest, is_activity, greatest_activity, greatest_deactivation, not_before, deactivated, may_expire, expired_at, expired, is_purged}
 use Rattle.table_laws.specs.history_spec.Trace.{Trace, IsTrace, applied, swept, is_kind}
-use Rattle.table_laws.proofs.of_history_laws.Moments.{later_is_stamp}
+use Rattle.table_laws.proofs.of_history_laws.Moments.{later_is_stamp, has_stamp_moment}
 use Rattle.table_laws.proofs.of_history_laws.NewestIsGreatest.{newest_is_greatest}
 use Rattle.table_laws.specs.table_spec.Cells.{moment_or_null, fact_cells, resource_cells, edge_cells}
 use Rattle.table_laws.specs.table_spec.Rows.{Cells, change_of, shown, environment_cell, timestamp_cell, report_cell, factset_rows, fact_rows, catalog_rows, resource_rows, edge_rows, report_rows, rows_of, rows}
@@ -38,13 +38,6 @@ use Rattle.table_laws.specs.stamp_time.Limits.{most_days}
 
 stamped : (m : ℤ) → HasStamp m → IsStampMoment m
 stamped m h = stamp_in_range h.0 m h.1
-
-stamp_of_change : (change : Change) → IsChange change → IsStampMoment (change_stamp change)
-stamp_of_change (Facts c) h = stamped c.stamp h.stamp
-stamp_of_change (Catalog c) h = stamped c.stamp h.stamp
-stamp_of_change (Report c) h = stamped c.stamp h.stamp
-stamp_of_change (Deactivate c) h = stamped c.stamp h.stamp
-stamp_of_change (Expiration c) h = stamped c.stamp h.stamp
 
 abbrev IfStamp : Option ℤ → Type 0
 IfStamp o = IfSome o IsStampMoment
@@ -156,7 +149,7 @@ environment_shown (Some c) = tt
 
 timestamp_shown : (o : Option Change) → IfChange o → IsPrintableCell (timestamp_cell o)
 timestamp_shown None h = tt
-timestamp_shown (Some c) h = stamp_is_printable (change_stamp c) (stamp_of_change c h)
+timestamp_shown (Some c) h = stamp_is_printable (change_stamp c) (has_stamp_moment c h)
 
 report_shown : (column : ReportChange → Json) (o : Option Change) → IsPrintableCell (report_cell column o)
 report_shown column None = tt
@@ -174,14 +167,14 @@ activity [] each = tt
 activity (x ∷ xs) each =
     let rest = activity xs (λ y a. each y (inr a)) in
     either_stamp (is_activity x) (later (change_stamp x.change) (greatest_activity xs)) (greatest_activity xs)
-    (later_is_stamp (change_stamp x.change) (greatest_activity xs) (stamp_of_change x.change (each x (inl refl))) rest) rest
+    (later_is_stamp (change_stamp x.change) (greatest_activity xs) (has_stamp_moment x.change (each x (inl refl))) rest) rest
 
 deactivation : (xs : List Applied) → AreLawful xs → IfStamp (greatest_deactivation xs)
 deactivation [] each = tt
 deactivation (x ∷ xs) each =
     let rest = deactivation xs (λ y a. each y (inr a)) in
     either_stamp (is_kind kind.Deactivate x) (later (change_stamp x.change) (greatest_deactivation xs)) (greatest_deactivation xs)
-    (later_is_stamp (change_stamp x.change) (greatest_deactivation xs) (stamp_of_change x.change (each x (inl refl))) rest) rest
+    (later_is_stamp (change_stamp x.change) (greatest_deactivation xs) (has_stamp_moment x.change (each x (inl refl))) rest) rest
 
 counted : (d a : Option ℤ) → IfStamp d → IfStamp (not_before d a)
 counted None a h = tt

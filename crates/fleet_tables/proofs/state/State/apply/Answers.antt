@@ -9,7 +9,8 @@ use Rattle.fleet_tables.specs.Groups.{joined, AreFew, AreStarts, StandInOrder}
 use Rattle.fleet_tables.specs.Rooms.{Fits, RoomFor}
 use Rattle.kept_nodes.specs.Owned.{IsOwn}
 use Rattle.fleet_tables.proofs.OwnLaws.{all_applied_own}
-use Rattle.fleet_tables.proofs.NodeOrder.{applied_in_order, has_stamp_moment}
+use Rattle.checkpoint_spec.proofs.of_history_laws.Moments.{has_stamp_moment}
+use Rattle.fleet_tables.proofs.NodeOrder.{applied_in_order}
 use Rattle.fleet_tables.proofs.RowBounds.{applied_few}
 use Rattle.fleet_tables.proofs.StartLaws.{starts_cut}
 use Rattle.kept_nodes.specs.declared.counts.Counts.{Counts}
