@@ -1,11 +1,11 @@
 -- The list of a history's table is the checkpoint of the history, and leads to that table again.
 use Rattle.std.proofs.Common.{◌≡◌, ◌∙◌, inl, inr, ℕ, ℤ, List, [], ◌∷◌, ◌++◌, map, refl, sym, ap, Option, Some, None, append_assoc}
-use Rattle.std.proofs.lemmas.Cmp.{on_total, tied_back, tied_itself}
+use Rattle.std.proofs.lemmas.Cmp.{on_total, tied_itself}
 use Rattle.std.proofs.lemmas.List.{append-nil}
 use Rattle.std.specs.Cmp.{IsTotalOrder}
 use Rattle.std.specs.List.{AllByRecursion, filter, flat_map, list_any}
 use Rattle.std.specs.List.Sorted.{IsStrictlySortedBy}
-use Rattle.std.specs.Ordering.{is_lt, ordering_reverse}
+use Rattle.std.specs.Ordering.{ordering_reverse}
 use Rattle.std.specs.Prelude.{nat_lt, length, not, ◌&&◌}
 use Rattle.std.specs.declared.cmp.Ordering.TheVariants.{Less, Equal, Greater}
 use Rattle.table_laws.proofs.of_plain_laws.Members.{Among}
@@ -27,7 +27,8 @@ use Rattle.table_laws.specs.table_machine.Places.{sorted}
 use Rattle.table_laws.specs.table_machine.Steps.{empty_node, with_applied, with_node, apply}
 use Rattle.table_laws.specs.table_machine.Table.{Node, Table, node_of, table_of}
 use Rattle.table_laws.proofs.of_table_machine.CommandSteps.{commands_are_followed}
-use Rattle.table_laws.proofs.of_table_machine.KeptReports.{HaveDistinctReceipts, distinct-filter, one_receipt}
+use Rattle.table_laws.proofs.of_table_machine.KeptReports.{HaveDistinctReceipts, distinct-filter}
+use Rattle.table_laws.proofs.of_table_machine.LimitedReports.{equal_ranks}
 use Rattle.table_laws.proofs.of_table_machine.NodeLaws.{stamp_of_newest_deactivation}
 use Rattle.table_laws.proofs.of_table_machine.Ranked as ranked
 use Rattle.table_laws.proofs.of_table_machine.ReportOrder.{report_cmp_total}
@@ -45,12 +46,9 @@ use Rattle.checkpoint_spec.proofs.NodesAgain.{all_with, node_again, of_kept}
 by_rank_total : IsTotalOrder by_rank
 by_rank_total = on_total rank_of rank_cmp_total
 
-equal_ranks : (x y : Applied) → by_rank x y ≡ Equal → x.receipt ≡ y.receipt
-equal_ranks x y e = one_receipt x y (ap is_lt e) (ap is_lt (tied_back by_rank_total x y e))
-
 apart_receipts : (xs : List Applied) → HaveDistinctReceipts xs → Apart by_rank by_rank_total xs
 apart_receipts [] h = tt
-apart_receipts (x ∷ xs) h = (λ y a tied. h.0 y a (sym (equal_ranks x y tied)), apart_receipts xs h.1)
+apart_receipts (x ∷ xs) h = (λ y a tied. h.0 y a (equal_ranks y x tied), apart_receipts xs h.1)
 
 apart_ranks : (xs : List Applied) → ranked.Apart by_rank by_rank_total xs → Apart by_rank by_rank_total xs
 apart_ranks [] h = tt
@@ -81,7 +79,7 @@ module _ (ttls : Ttls) (history : Trace) (is : IsTrace history) (certname : List
       life_told ttls history certname is x y
       (kept_among_life ttls history certname x (among-from_sorted report_cmp report_cmp_total x kept a))
       (kept_among_life ttls history certname y (among-from_sorted report_cmp report_cmp_total y kept b))
-      (equal_ranks x y tied)
+      (sym (equal_ranks y x tied))
 
   sorted_are_apart : Apart by_rank by_rank_total (sorted report_cmp kept)
   sorted_are_apart =

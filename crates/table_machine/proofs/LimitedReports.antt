@@ -38,7 +38,7 @@ by_rank x y = rank_cmp (rank_of y) (rank_of x)
 pub by_rank_total : IsTotalOrder by_rank
 by_rank_total = back_total (on_total rank_of rank_cmp_total)
 
-equal_ranks : (x y : Applied) → by_rank x y ≡ Equal → x.receipt ≡ y.receipt
+pub equal_ranks : (x y : Applied) → by_rank x y ≡ Equal → x.receipt ≡ y.receipt
 equal_ranks x y e = one_receipt x y (ap is_lt (tied_back by_rank_total x y e)) (ap is_lt e)
 
 -- ---- a limit, and one report more
