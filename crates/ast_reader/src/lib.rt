@@ -7,8 +7,8 @@
 //! law of `query_laws`), so the calls can't return another query or another fault. The only other result is missing memory.
 //!
 //! Reading has three steps: bytes to a JSON value (`json_read`), the value to a tree by the forms of the AST (`filter.rt`,
-//! `body.rt`, and `ast_parts` for what has no filter within), and the check of entities, fields and operands (`ast_tree`). So a fault of an earlier step is reported even if a
-//! fault of a later step comes before it in the text.
+//! `body.rt`, and `ast_parts` for what has no filter within), and the check of entities, fields and operands (`ast_tree`). So a
+//! fault of an earlier step is reported even if a fault of a later step comes before it in the text.
 //!
 //! A fault is the first of these: too long, no JSON, no query, unknown entity, unknown field, bad operand.
 #![tactic(auto)]

@@ -9,7 +9,8 @@ ghost use Rattle.checkpoint_spec.specs.table_machine.Steps.{find_node, with_node
 ghost use Rattle.checkpoint_spec.specs.table_machine.Table.{Node as MachineNode};
 ghost use Rattle.kept_nodes.specs.Counted.{IsWithin};
 ghost use Rattle.kept_nodes.specs.declared.counts.Counts.{Counts as Rows};
-ghost use Rattle.fleet_tables.specs.Groups.{joined, IsFilled, AreFilledOrOne, StandInOrder, AreBefore, AreCountsOf, AreFew, AreStarts, HaveRow, IsRowOf, AreBelow, AreAbove};
+ghost use Rattle.fleet_tables.specs.Groups.{joined, IsFilled, AreFilledOrOne, StandInOrder, AreBefore, AreCountsOf, AreFew};
+ghost use Rattle.fleet_tables.specs.Groups.{AreStarts, HaveRow, IsRowOf, AreBelow, AreAbove};
 ghost use Rattle.kept_nodes.specs.Places.{left_by_purge};
 ghost use Rattle.fleet_tables.specs.Rooms.{IsRoomAt, IsFirstFor};
 

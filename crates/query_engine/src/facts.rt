@@ -78,7 +78,8 @@ pub(crate) fn facts_for<L: Ledger>(
     walk: &mut Steps<L>,
 ) -> Result<FactRows, AllocError>
     ensures cost { walk.new ≤ walk.old + length names.now }
-    ensures value { IfOk result (λ facts. facts ≡ fetched (node_in (Some entity) (cells_of row.now)) (table_rows entities.Facts tables.now) (texts_seen names.now)) }
+    ensures value { IfOk result (λ facts. facts
+        ≡ fetched (node_in (Some entity) (cells_of row.now)) (table_rows entities.Facts tables.now) (texts_seen names.now)) }
 {
     let node = node_in(Some(entity), row);
     let facts = read_facts(alloc, tables, node, names, walk)?;

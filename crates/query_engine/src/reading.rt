@@ -118,7 +118,8 @@ fn with_certname<'q>(certname: Demand<'q>, own: Option<Wanted<'q>>) -> Option<Wa
 }
 
 fn own_with<'q>(certname: Demand<'q>, own: Wanted<'q>) -> Option<Wanted<'q>>
-    ensures { (e : EntityValue) (ps : List PinOf) → IsDemand (demanded (codes "certname") ps) certname.entry → IsOwnBy e ps (Some own.entry) → IsWantedBy e ps result }
+    ensures { (e : EntityValue) (ps : List PinOf) → IsDemand (demanded (codes "certname") ps) certname.entry
+        → IsOwnBy e ps (Some own.entry) → IsWantedBy e ps result }
 {
     match certname {
         Demand::Different => None,

@@ -317,8 +317,8 @@ impl Fleet {
 /// `fleet` begins with tables of no node. `facts`, `catalog`, `report` and `deactivate` apply a command by its payload, and `expire`
 /// is a sweep of expiry at a stamp. `ask` is a whole query in either language, `ast` one in the AST, and the name of an entity
 /// asks for its rows in the AST. These three fail where reading all rows tells something else. `told` is what the last question was
-/// told: the rows, or the refusal. `course` asks, and is told what a reader of patterns was asked. `page` asks a query by the paging of another one. `repeat` asks the parts between bars, each
-/// second one so many times; `tells` repeats what is told so.
+/// told: the rows, or the refusal. `course` asks, and is told what a reader of patterns was asked. `page` asks a query by the
+/// paging of another one. `repeat` asks the parts between bars, each second one so many times; `tells` repeats what is told so.
 pub(crate) fn play(rt: &impl Abort, alloc: Global, lines: &str) -> Result<(), AllocError> {
     let mut fleet = Fleet::new(alloc);
     for (place, line) in lines.split('\n').enumerate() {
