@@ -1,4 +1,4 @@
-//! Links that are served: what a command answers on them, and what others tell of it then.
+//! Links that are served: what is answered on them, and what later commands print.
 use crate::rounds::play;
 use std::alloc::AllocError;
 

@@ -1,4 +1,4 @@
-//! The pending commands with the receipt of the next one.
+//! A list of pending commands, and a number above its receipts: the next receipt.
 ghost use Rattle.std.specs.Prelude.{◌≡◌, IsTrue};
 ghost use Rattle.supersede_core.specs.core_machine.Claims.{is_claimed};
 ghost use Rattle.supersede_core.specs.Waiting.{AreBelow, stands, is_queued};

@@ -1,4 +1,4 @@
-//! The kinds of cases.
+//! Tries each kind of case by its own player.
 use crate::keepers::{try_keeper, try_memory};
 use crate::waiting::try_queue;
 use std::alloc::{AllocError, Global};

@@ -1,4 +1,4 @@
-//! The kinds of cases.
+//! Tries each kind of case by its own player.
 use crate::cores::try_core;
 use crate::openings::try_opening;
 use std::alloc::{AllocError, Global};

@@ -1,4 +1,4 @@
-//! A log under a lock.
+//! Threads append to a log under a turn lock.
 ghost use Rattle.std.specs.Prelude.{◌≡◌, ◌+◌, ◌≤◌, [], ◌∷◌, ◌++◌, All, List, ℕ, vec_len, IfOk, OnOk, OnErr};
 ghost use Rattle.turn_lock.specs.Seen.{Appends};
 

@@ -1,4 +1,4 @@
-//! Has the states of the reader of PQL, and what is open around a filter.
+//! Defines the states of the reader of PQL, and stores what is open around a filter.
 //!
 //! The states are those of `pql_machine` (`state.rt`), but what is open is stored in a list of its own (`frames.rt`), the innermost
 //! last. Each list of filters stores its height (`build.rt`). From the heights [`need`] computes in a few steps whether the least

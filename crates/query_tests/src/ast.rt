@@ -1,4 +1,4 @@
-//! Forms and faults of the AST. Over tables of no node each query is told no row, and a text that is none its first fault.
+//! Forms and faults of the AST. Tables are empty: a query is told no row, and a text that is no query is told its first fault.
 use crate::play::play;
 use std::alloc::AllocError;
 

@@ -1,4 +1,4 @@
-//! Spools as they come, and as they must not.
+//! Spools that are whole, and spools that are cut or malformed.
 use spool_text::stamp_time::Moment;
 use spool_text::{NextItem, Spool, SpoolReader};
 use std::alloc::{AllocError, Global};

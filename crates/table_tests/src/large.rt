@@ -1,4 +1,4 @@
-//! Tables take memory for large inputs: want of memory is an answer that no contract refuses.
+//! Large inputs, for which tables have to find memory. Contracts would allow any call to answer that memory lacks.
 use crate::play::Fleet;
 use command_decode::fleet_rows::Kind;
 use std::alloc::{AllocError, Global};

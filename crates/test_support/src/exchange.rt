@@ -1,4 +1,4 @@
-//! What comes in on a link, and what is to come of it.
+//! What comes in on a link, and the answers that have to follow.
 use crate::given::Given;
 use crate::pieces::Pieces;
 use crate::texts::{add_bytes, number_of, parted};

@@ -1,4 +1,4 @@
-//! What the last command came to, and what the lines of a script say of it.
+//! How the last command ended, and what the lines of a script expect of it.
 use crate::texts::{add_bytes, add_line, number_of};
 use itoa::Buffer;
 use std::alloc::{AllocError, Global};

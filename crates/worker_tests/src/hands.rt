@@ -1,4 +1,4 @@
-//! A hub by hand.
+//! Makes the calls of a hub one by one, as a worker does.
 ghost use Rattle.std.specs.Prelude.{◌≡◌, ◌≤◌, length, IfOk};
 ghost use Rattle.fleet_hub.specs.core_settles.Settles.{IsVerdictOf};
 ghost use Rattle.fleet_hub.specs.core_state.Seen.{IsFit};
