@@ -96,21 +96,6 @@ impl Told {
         is_so
     }
 
-    /// Appends which line isn't so, and how the last command ended.
-    pub(crate) fn tell(
-        &self,
-        scenario: &str,
-        line: &str,
-        wrong: &mut String,
-    ) -> Result<(), AllocError> {
-        let printed = str::from_utf8(self.printed.as_slice()).unwrap_or("no text");
-        for text in [scenario, line, self.end.as_str(), printed] {
-            wrong.push_str(text)?;
-            wrong.push('\n')?;
-        }
-        Ok(())
-    }
-
     // Appends to the log whether a disk failed, how the last command ended, and what it printed.
     fn note(&mut self, has_failed: bool) -> Result<(), AllocError> {
         if !self.log.is_empty() {
