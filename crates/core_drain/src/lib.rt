@@ -26,6 +26,7 @@ mod work;
 
 pub use drain::drain_alone;
 pub use ends::WorkEnd;
+pub use work::end_of_settle;
 
 // Re-exports for the crates above.
 pub use command_core::{

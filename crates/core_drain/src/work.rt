@@ -79,7 +79,7 @@ fn settle_as<D: Disk + Drop, K: Keeper + Drop>(
 {
     match core.settle(job, verdict) {
         Settled::Memory(job, _) => Some(give_back(core, job)),
-        settled => end_of(&settled),
+        settled => end_of_settle(&settled),
     }
 }
 
@@ -96,8 +96,8 @@ fn give_back<D: Disk + Drop, K: Keeper + Drop>(core: &mut Core<D, K>, job: Job) 
     WorkEnd::Memory
 }
 
-// The end that an answer of a settle means.
-fn end_of(settled: &Settled) -> Option<WorkEnd>
+/// The end that an answer of a settle means.
+pub fn end_of_settle(settled: &Settled) -> Option<WorkEnd>
     ensures { result ≡ after_settle settled.now }
 {
     match settled {

@@ -1,6 +1,6 @@
 //! The loop of one worker.
 ghost use Rattle.std.specs.Prelude.{◌≡◌, Some, None};
-ghost use Rattle.core_drain.specs.Answers.{after_claim, after_settle};
+ghost use Rattle.core_drain.specs.Answers.{after_claim};
 ghost use Rattle.core_drain.specs.core_settles.Settles.{IsVerdictOf};
 ghost use Rattle.core_drain.specs.core_state.Seen.{IsFit};
 ghost use Rattle.core_drain.specs.core_course.Sight.{sight_of};
@@ -13,7 +13,7 @@ use crate::hub::{Hub, Pass};
 use crate::purpose::Purpose;
 use crate::under_lock::{Lock, claim, release, settle};
 use command_decode::DecodeFault;
-use core_drain::{Claimed, Job, Keeper, Prepared, Settled, Verdict, WorkEnd};
+use core_drain::{Claimed, Job, Keeper, Prepared, Settled, Verdict, WorkEnd, end_of_settle};
 use fleet_ports::Disk;
 use fleet_rows::Change;
 use std::alloc::Global;
@@ -208,20 +208,5 @@ fn end_of_claim<D: Disk + Drop, K: Keeper + Drop, P: Purpose, W: Wait>(
         Claimed::Spent => Some(WorkEnd::Spent),
         Claimed::Down => Some(WorkEnd::Down),
         Claimed::Memory => Some(WorkEnd::Memory),
-    }
-}
-
-// The end that an answer of a settle means.
-fn end_of_settle(settled: &Settled) -> Option<WorkEnd>
-    ensures { result ≡ after_settle settled.now }
-{
-    match settled {
-        Settled::Applied | Settled::Discarded | Settled::Failed { .. } | Settled::NotClaimed =>
-            None,
-        Settled::StoreDown => Some(WorkEnd::StoreDown),
-        Settled::QueueFault => Some(WorkEnd::QueueFault),
-        Settled::Spent => Some(WorkEnd::Spent),
-        Settled::Down => Some(WorkEnd::Down),
-        Settled::Memory(_, _) => Some(WorkEnd::Memory),
     }
 }

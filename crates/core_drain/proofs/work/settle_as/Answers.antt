@@ -91,7 +91,7 @@ returns-in_default-clause-ends g c =
       twice = c.settle.ensures.does.twice;
       each_image = c.settle.ensures.does.each_image;
     } in
-    subst (λ (end : Option WorkEnd). EndsHere w end c.args.core.now c.settle.new.self) (sym c.end_of.ensures)
+    subst (λ (end : Option WorkEnd). EndsHere w end c.args.core.now c.settle.new.self) (sym c.end_of_settle.ensures)
     (settle_ends w c.args.job c.args.verdict c.args.core.now c.settle.new.self c.requires.submitted c.requires.decodes c.requires.fit c.requires.up c.settle.result says answers)
 
 pub returns-in-Memory-clause-queue_cause : goal.returns-in-Memory-clause-queue_cause
@@ -104,7 +104,7 @@ returns-in-Memory-clause-queue_cause g c =
 
 pub returns-in_default-clause-queue_cause : goal.returns-in_default-clause-queue_cause
 returns-in_default-clause-queue_cause g c =
-    counts_as g.D.Disk.fault_count c.args.core.now.queue c.settle.new.self.queue (λ e. c.end_of.ensures ∙ ap after_settle e) (λ e. settle_fault c.settle.result (sym c.end_of.ensures ∙ e)) c.settle.ensures.does.cause
+    counts_as g.D.Disk.fault_count c.args.core.now.queue c.settle.new.self.queue (λ e. c.end_of_settle.ensures ∙ ap after_settle e) (λ e. settle_fault c.settle.result (sym c.end_of_settle.ensures ∙ e)) c.settle.ensures.does.cause
 
 pub returns-in-Memory-clause-lets_go : goal.returns-in-Memory-clause-lets_go
 returns-in-Memory-clause-lets_go g c =
@@ -120,4 +120,4 @@ pub returns-in-Memory-clause-last : goal.returns-in-Memory-clause-last
 returns-in-Memory-clause-last g c = memory_ends g.D.Disk g.K.Keeper c.args.core.now c.give_back.new.core c.give_back.result c.give_back.ensures.memory
 
 pub returns-in_default-clause-last : goal.returns-in_default-clause-last
-returns-in_default-clause-last g c = last_settle g.D.Disk g.K.Keeper c.args.core.now c.settle.new.self c.settle.result c.args.job c.args.verdict c.end_of.result c.end_of.ensures c.settle.ensures.does
+returns-in_default-clause-last g c = last_settle g.D.Disk g.K.Keeper c.args.core.now c.settle.new.self c.settle.result c.args.job c.args.verdict c.end_of_settle.result c.end_of_settle.ensures c.settle.ensures.does
