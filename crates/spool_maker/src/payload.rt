@@ -57,7 +57,8 @@ fn put_catalog(
         &[
             b"{\"certname\":\"node",
             Buffer::new().format(node).as_bytes(),
-            b"\",\"version\":\"1\",\"environment\":\"production\",\"transaction_uuid\":null,\"catalog_uuid\":null,\"code_id\":null,\"job_id\":null,\"producer_timestamp\":\"",
+            b"\",\"version\":\"1\",\"environment\":\"production\",\"transaction_uuid\":null,\"catalog_uuid\":null,\
+\"code_id\":null,\"job_id\":null,\"producer_timestamp\":\"",
             stamp,
             b"\",\"producer\":\"m\",\"edges\":[],\"resources\":[{\"type\":\"Class\",\"title\":\"c",
             Buffer::new().format(number).as_bytes(),
