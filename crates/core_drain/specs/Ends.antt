@@ -78,7 +78,8 @@ pub record RoseBehindFails {D K : Type 0} (w : Sight D K) (n : ℕ) (old new : C
   pub rose : RoseBy n counted (w.store_faults new.store)
   pub fails : (start : History) → Stood w old start → IsAfterFails counted (history_of new start)
 
--- the fault count of one of the queue's disks rose in the last call
+-- The fault count of one of the queue's disks rose between an earlier core and this one, and the events between them are at most
+-- those of one call.
 pub record RoseInLast {D K : Type 0} (w : Sight D K) (old new : CoreState D K) : Type 0 where
   pub earlier : History
   pub mid : CoreState D K
@@ -88,7 +89,8 @@ pub record RoseInLast {D K : Type 0} (w : Sight D K) (old new : CoreState D K) :
   pub passed : Passed w last mid new
   pub rose : QueueRose w mid new
 
--- Something is pending, and no Done is lacking. So only a log can be down. If none is, the last call counted the fault.
+-- Something is pending, and no Done is lacking. So only a log can be down. If none is, the queue counted a fault while at most the
+-- events of one last call came.
 abbrev pub IsLeft : {D K : Type 0} → Sight D K → CoreState D K → CoreState D K → Type 0
 IsLeft w old new = (new.undone ≡ false) × SomethingWaits w old new × (is_down w new ≡ false → RoseInLast w old new)
 
