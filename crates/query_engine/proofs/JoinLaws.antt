@@ -6,7 +6,8 @@ use Rattle.std.specs.Option.{option_map_or}
 use Rattle.std.specs.Str.{bytes_eq}
 use Rattle.std.proofs.lemmas.List.{drop_more}
 use Rattle.fleet_tables.proofs.of_plain_laws.Booleans.{both_true}
-use Rattle.fleet_tables.proofs.of_plain_laws.Lists.{one_text, bytes_eq-itself}
+use Rattle.fleet_tables.proofs.of_plain_laws.Lists.{one_text}
+use Rattle.fleet_tables.proofs.of_checkpoint_spec.of_text_laws.SameLaws.{text_turn}
 use Rattle.fleet_tables.specs.fleet_rows.Cell.{CellValue}
 use Rattle.fleet_tables.specs.fleet_rows.declared.row.Entity.{Entity}
 use Rattle.same_text.specs.text_spec.Json.{null, boolean, number, string, array, object}
@@ -156,9 +157,6 @@ any_up p q (x ∷ xs) f h = up (p x) (q x) (list_any p xs) (list_any q xs) (f x)
     up true false c d f g h = absurd (let apart : false ≡ true = f refl in cc)
     up false false c d f g h = g h
 
-pub other_way : (a b : List ℕ) → bytes_eq a b ≡ true → bytes_eq b a ≡ true
-other_way a b h = subst (λ x. bytes_eq x a ≡ true) (one_text a b h) (bytes_eq-itself a)
-
 -- where the certname is a text, the level has it
 text_had : (found : List (List Cells)) (e : Entity) (row : Cells) (s : List ℕ) → cell_under (columns e) (codes "certname") row ≡ text_cell s → (j : Join) → is_joined found (Some e) row j ≡ true → has_node found j s ≡ true
 text_had found e row s is (ByCell i) h = sym (ap (λ x. option_map_or (list_any (equal_cells (x ∷ []))) (slice_get found i) false) is) ∙ h
@@ -166,7 +164,7 @@ text_had found e row s is (ByNode o i) h = turned (slice_get found i) (sym (ap (
   where
     turned : (known : Option (List Cells)) → option_map_or (list_any (λ other. bytes_eq (node_in o other) s)) known false ≡ true → option_map_or (list_any (λ other. bytes_eq s (node_in o other))) known false ≡ true
     turned None h = h
-    turned (Some rows) h = any_up (λ other. bytes_eq (node_in o other) s) (λ other. bytes_eq s (node_in o other)) rows (λ x. other_way (node_in o x) s) h
+    turned (Some rows) h = any_up (λ other. bytes_eq (node_in o other) s) (λ other. bytes_eq s (node_in o other)) rows (λ x. text_turn (node_in o x) s) h
 
 among : (e : Entity) (nodes : List (List ℕ)) (row : Cells) (s : List ℕ) → cell_under (columns e) (codes "certname") row ≡ text_cell s → is_among nodes s ≡ true → is_of e nodes row ≡ true
 among e nodes row s is h = ap (λ x. list_any (λ t. text_equals t x) nodes) is ∙ h

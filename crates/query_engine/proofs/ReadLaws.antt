@@ -6,6 +6,7 @@ use Rattle.std.specs.List.{AllByRecursion, list_any}
 use Rattle.std.proofs.lemmas.Option.{slice_get_within}
 use Rattle.std.proofs.lemmas.List.{take_more}
 use Rattle.std.proofs.lemmas.List.Folds.{list_any-append}
+use Rattle.fleet_tables.proofs.of_plain_laws.Booleans.{true_both}
 use Rattle.fleet_tables.proofs.of_plain_laws.Lists.{map_both}
 use Rattle.fleet_tables.proofs.PlaceLaws.{places_show, all_same, no_places, same_places}
 use Rattle.fleet_tables.specs.Spans.{places_of}
@@ -112,13 +113,9 @@ right_of : (a b : Bool) → (a && b) ≡ true → b ≡ true
 right_of true b h = h
 right_of false b h = absurd (let apart : false ≡ true = h in cc)
 
-both_so : (a b : Bool) → a ≡ true → b ≡ true → (a && b) ≡ true
-both_so true b h k = k
-both_so false b h k = absurd (let apart : false ≡ true = h in cc)
-
 all_and : (p q r : Cells → Bool) (xs : List Cells) → ((row : Cells) → p row ≡ true → r row ≡ true) → AllByRecursion (λ row. p row ≡ true → q row ≡ true) xs → AllByRecursion (λ row. p row ≡ true → (q row && r row) ≡ true) xs
 all_and p q r [] f h = tt
-all_and p q r (x ∷ xs) f h = (λ k. both_so (q x) (r x) (h.0 k) (f x k), all_and p q r xs f h.1)
+all_and p q r (x ∷ xs) f h = (λ k. true_both (q x) (r x) (h.0 k) (f x k), all_and p q r xs f h.1)
 
 pub at_place : (n : ℕ) (places : List ℕ) (i d : ℕ) → AllByRecursion (λ q. q < n) places → i < length places → get_or places i d < n
 at_place n [] i d h lt = absurd (omega (arith, lt))

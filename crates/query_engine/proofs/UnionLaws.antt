@@ -4,6 +4,7 @@ use Rattle.std.specs.Prelude.{nat_lt}
 use Rattle.std.specs.Borrow.{Bor}
 use Rattle.std.specs.List.{list_any}
 use Rattle.std.specs.Str.{bytes_eq}
+use Rattle.fleet_tables.proofs.of_plain_laws.Booleans.{or_right}
 use Rattle.fleet_tables.specs.Spans.{places_from}
 use Rattle.query_reach.specs.Seen.{texts_seen}
 use Rattle.query_engine.specs.Joins.{below, stands_behind, is_among}
@@ -19,14 +20,10 @@ below_last (x ∷ []) n y d h = let one : 0 ≡ n = omega (arith, h) in ap (λ k
 below_last (x ∷ x' ∷ xs) zero y d h = absurd (omega (arith, h))
 below_last (x ∷ x' ∷ xs) (suc n) y d h = below_last (x' ∷ xs) n y d (omega (arith, h))
 
-or_last : (a b : Bool) → b ≡ true → (a || b) ≡ true
-or_last true b h = refl
-or_last false b h = h
-
 pub among_last : (xs : List (Bor (List ℕ))) (n : ℕ) (t : List ℕ) (d : Bor (List ℕ)) → length xs ≡ suc n → bytes_eq t (get_or xs n d).now ≡ true → is_among (texts_seen xs) t ≡ true
 among_last [] n t d h e = absurd (omega (arith, h))
 among_last (x ∷ xs) zero t d h e = ap (λ b. b || list_any (bytes_eq t) (texts_seen xs)) e
-among_last (x ∷ xs) (suc n) t d h e = or_last (bytes_eq t x.now) (list_any (bytes_eq t) (texts_seen xs)) (among_last xs n t d (omega (arith, h)) e)
+among_last (x ∷ xs) (suc n) t d h e = or_right (bytes_eq t x.now) (list_any (bytes_eq t) (texts_seen xs)) (among_last xs n t d (omega (arith, h)) e)
 
 -- ---- one more place in front of the others
 

@@ -63,7 +63,7 @@ number_chain s t u h k = same_number-from s u (joined s t u (same_number-to s t 
 
 -- ---- texts and truths
 
-text_turn : (s t : List ℕ) → bytes_eq s t ≡ true → bytes_eq t s ≡ true
+pub text_turn : (s t : List ℕ) → bytes_eq s t ≡ true → bytes_eq t s ≡ true
 text_turn s t h = (bytes_eq-Decides t s).1 (sym ((bytes_eq-Decides s t).0 h))
 
 text_chain : (s t u : List ℕ) → bytes_eq s t ≡ true → bytes_eq t u ≡ true → bytes_eq s u ≡ true
