@@ -140,7 +140,8 @@ fn ends_with(nodes: &[&str], node: &str) -> bool
 
 // Appends the node, if it isn't the last one.
 fn note_node<'f>(nodes: &mut Vec<&'f str>, node: &'f str) -> Result<(), AllocError>
-    ensures { OnOk result ((s : List ℕ) → (bytes_eq s node.now || is_among (texts_seen nodes.old.items) s) ≡ true → is_among (texts_seen nodes.new.items) s ≡ true) }
+    ensures { OnOk result ((s : List ℕ) → (bytes_eq s node.now || is_among (texts_seen nodes.old.items) s) ≡ true
+        → is_among (texts_seen nodes.new.items) s ≡ true) }
 {
     if !ends_with(nodes.as_slice(), node) {
         nodes.push(node)?;
@@ -195,7 +196,8 @@ fn by_node<'f>(
     entity: Option<Entity>,
     rows: &'f [Cells],
 ) -> Result<Vec<&'f str>, AllocError>
-    ensures { IfOk result (λ nodes. (s : List ℕ) → list_any (λ row. bytes_eq s (node_in entity row)) rows.now ≡ true → is_among (texts_seen nodes.items) s ≡ true) }
+    ensures { IfOk result (λ nodes. (s : List ℕ) → list_any (λ row. bytes_eq s (node_in entity row)) rows.now ≡ true
+        → is_among (texts_seen nodes.items) s ≡ true) }
 {
     let mut nodes = Vec::new(alloc);
     'noting: for row in rows {

@@ -206,7 +206,8 @@ fn push_node(
 ) -> Result<bool, AllocError>
     ensures { IfOk result (λ behind. behind ≡ true → (ps : List PinOf) → IsOwnBy entity ps (Some own.now)
         → (before : CellsOf → Bool) → places.old.items ≡ places_of before (table_rows entity tables.now)
-        → places.new.items ≡ places_of (λ row. before row || (is_of entity (node.now ∷ []) row && shows_own (Some entity) ps row)) (table_rows entity tables.now)) }
+        → places.new.items
+        ≡ places_of (λ row. before row || (is_of entity (node.now ∷ []) row && shows_own (Some entity) ps row)) (table_rows entity tables.now)) }
 {
     let wanted = own_under(Some(node), *own);
     let more = tables.seek(alloc, entity, &wanted)?;
@@ -222,7 +223,8 @@ fn places_of_nodes(
     nodes: &[&str],
 ) -> Result<Option<Vec<usize>>, AllocError>
     ensures { IfOk result (λ found. (ps : List PinOf) → IsOwnBy entity ps (Some own.now)
-        → IfSome found (λ places. places.items ≡ places_of (λ row. is_of entity (texts_seen nodes.now) row && shows_own (Some entity) ps row) (table_rows entity tables.now))) }
+        → IfSome found (λ places. places.items
+        ≡ places_of (λ row. is_of entity (texts_seen nodes.now) row && shows_own (Some entity) ps row) (table_rows entity tables.now))) }
 {
     let mut places = Vec::new(alloc);
     'asking: for node in nodes {
@@ -279,7 +281,8 @@ pub(crate) fn places_for(
     pins: &[Pin<'_>],
     nodes: &Nodes<'_>,
 ) -> Result<Vec<usize>, AllocError>
-    ensures { IfOk result (λ places. AreReadBy nodes.now.joined entity (pins_seen pins.now) (texts_seen nodes.now.list.items) (table_rows entity tables.now) places.items) }
+    ensures { IfOk result (λ places. AreReadBy nodes.now.joined entity (pins_seen pins.now) (texts_seen nodes.now.list.items)
+        (table_rows entity tables.now) places.items) }
 {
     if nodes.joined {
         places_joined(alloc, tables, entity, pins, nodes.list.as_slice())
