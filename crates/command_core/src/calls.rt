@@ -22,7 +22,8 @@ use core_settles::{
 use core_submits::{Submitted, submit};
 use core_sweeps::{Swept, sweep};
 use fleet_ports::{Disk, Disks};
-use fleet_rows::{Command, Kinds};
+use fleet_rows::json_tree::Text;
+use fleet_rows::{Command, Entity, Kinds};
 use retry_discard::Discards;
 use stamp_time::Moment;
 use std::alloc::AllocError;
@@ -137,6 +138,20 @@ impl<D: Disk + Drop, K: Keeper + Drop> Core<D, K> {
         ensures { self.new ≡ self.old }
     {
         self.state.tables.prepare_all()
+    }
+
+    /// Computes what the rows of one entity show (`Tables::prepare`). The core is unchanged, also without memory.
+    pub fn prepare_entity(&mut self, entity: Entity) -> Result<(), AllocError>
+        ensures { self.new ≡ self.old }
+    {
+        self.state.tables.prepare(entity)
+    }
+
+    /// Computes what the rows of one node of an entity show (`Tables::prepare_node`). The core is unchanged, also without memory.
+    pub fn prepare_node(&mut self, entity: Entity, certname: &Text) -> Result<(), AllocError>
+        ensures { self.new ≡ self.old }
+    {
+        self.state.tables.prepare_node(entity, certname)
     }
 
     /// The discarded commands, by receipt.

@@ -8,7 +8,8 @@
 //! - [`Core::release`] and [`Core::free_claims`] queue claimed commands again.
 //! - [`Core::sweep`] sweeps the tables.
 //! - [`Core::compact`] rewrites both logs, as short as what the core holds. A full log answers Spent.
-//! - [`Core::prepare`] computes what rows show, which an opening doesn't do. Readers of rows call it first.
+//! - [`Core::prepare`] computes what rows show, which an opening doesn't do. Readers of rows call it first, or
+//!   [`Core::prepare_entity`] and [`Core::prepare_node`] for what they read.
 //!
 //! Contracts see a core as its `CoreState`. It is sound between the calls, and can always be written to logs. `StandsFor` in
 //! `core_state` says which history a core stands for. Each call says which events it adds to that history. At each moment within

@@ -18,13 +18,13 @@
 //!
 //! What is kept of one node stands in `kept_nodes`, with the words for rows by index, for the sought rows and for their places.
 //!
-//! Memory is taken only by `Prepared::of`, the two calls that make room, the two that prepare, `row`, `seek`, `snapshot`,
+//! Memory is taken only by `Prepared::of`, the two calls that make room, the three that prepare, `row`, `seek`, `snapshot`,
 //! `from_list` and `mark`. The stored data is in `State`, which holds no allocator except those of its lists; only these calls hand
 //! it one.
 //!
 //! A row shows hashes and has its place by an order (`kept_nodes`). `Prepared::of` computes both without the tables.
-//! `reserve_prepared` computes nothing, and `reserve` only packs a report. `prepare` computes them for all nodes. Otherwise `row`
-//! computes what its row needs.
+//! `reserve_prepared` computes nothing, and `reserve` only packs a report. `prepare` computes them for all nodes, `prepare_node`
+//! for one. Otherwise `row` computes what its row needs.
 //!
 //! Nodes are stored in groups of neighbours (`Group`). `reserve` splits a group of 256 nodes or more before a node in it is added
 //! or changed. So a command needs one binary search, moves and recounts the nodes of one group at most, and adjusts the total. A

@@ -17,8 +17,9 @@
 //! - `Owned.antt`: the commands of a node name it. `Packed.antt`: a report's lists as texts.
 //!
 //! A row shows hashes, and the orders of facts, resources and edges decide its index. Both depend only on the command and are
-//! stored in parts (`FactsShown`, `CatalogShown`). `shown_by` computes all parts of a change, `needed_by` only packs a report, and
-//! `prepare_nodes` computes the parts of an entity for all nodes of a list. Otherwise a row's parts are computed with it.
+//! stored in parts (`FactsShown`, `CatalogShown`). `shown_by` computes all parts of a change, and `needed_by` only packs a report.
+//! `prepare_nodes` computes the parts of an entity for all nodes of a list, and `prepare_node` for one of them. Otherwise a row's
+//! parts are computed with it.
 //!
 //! A report's lists are kept as their compact texts (`PackedReport`), since they are most of what is kept, and a tree of them takes
 //! three times as much. Rows of `reports` unpack one report each; rows of `nodes` need no list. Reports of a node stand by
@@ -56,7 +57,7 @@ pub use marks::mark_in;
 pub use node::Node;
 pub use packed::{PackedLists, PackedReport};
 pub use places::{count_from, node_of_row, place_of};
-pub use preparing::prepare_nodes;
+pub use preparing::{prepare_node, prepare_nodes};
 pub use shown::{CatalogShown, FactsShown, ResourcesShown};
 pub use snapshot::{push_commands, push_marks};
 pub use wanted::{Span, Wanted, WantedResource};

@@ -3,11 +3,12 @@ ghost use Rattle.std.specs.Prelude.{◌≡◌, map};
 ghost use Rattle.std.specs.List.{AllByRecursion};
 ghost use Rattle.kept_nodes.specs.Counted.{counts, numbers};
 ghost use Rattle.kept_nodes.specs.Kept.{IsCatalog, IsFactset, IsNode, IsReport};
-ghost use Rattle.kept_nodes.specs.Places.{nodes_in, seen_in};
+ghost use Rattle.kept_nodes.specs.Places.{nodes_in, seen_in, InOrder};
 ghost use Rattle.kept_nodes.specs.Seen.{catalog_seen, facts_seen, node_seen, report_seen};
 
 use crate::kept::{Factset, HeldReport, NodeCatalog};
 use crate::node::Node;
+use crate::places::place_of;
 use fleet_rows::Entity;
 use std::alloc::{AllocError, Global};
 
@@ -26,6 +27,25 @@ pub fn prepare_nodes(
         nodes[at].prepare(alloc, entity)?;
     }
     Ok(())
+}
+
+/// Computes for the node with this certname what its rows of this entity show, as far as it is missing. Other nodes are unchanged.
+pub fn prepare_node(
+    nodes: &mut Vec<Box<Node>>,
+    alloc: Global,
+    entity: Entity,
+    certname: &str,
+) -> Result<(), AllocError>
+    requires order { InOrder (nodes_in nodes.old.items) }
+    requires kept { AllByRecursion IsNode (nodes_in nodes.old.items) }
+    ensures seen { seen_in nodes.new.items ≡ seen_in nodes.old.items }
+    ensures kept { AllByRecursion IsNode (nodes_in nodes.new.items) }
+    ensures numbers { numbers (nodes_in nodes.new.items) ≡ numbers (nodes_in nodes.old.items) }
+{
+    match place_of(nodes.as_slice(), certname) {
+        Ok(at) => nodes[at].prepare(alloc, entity),
+        Err(_) => Ok(()),
+    }
 }
 
 impl Node {
