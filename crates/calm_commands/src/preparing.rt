@@ -2,7 +2,7 @@
 //!
 //! Rows that aren't prepared compute what they show when they are read. A hash is then computed for its row alone. But a row of
 //! facts, resources or edges needs the order of all such rows of its node. So an entity is prepared if a level reads several of
-//! these of a node, or if two levels read it. A level of one node needs nothing, unless that node has many rows.
+//! these of a node, or if two levels read it. For a level of one node, that node alone is prepared.
 //!
 //! Nodes are not prepared: that would hash each of their reports, and a node's row shows the latest alone.
 ghost use Rattle.std.specs.Prelude.{◌≡◌};
@@ -14,7 +14,7 @@ use fleet_tables::Tables;
 use pql_reader::read_pql;
 use query_answer::is_ast;
 use query_plan::ast_tree::Query;
-use query_plan::{Stage, plan_of};
+use query_plan::{Stage, Step, plan_of};
 use query_reach::{Demand, Pin, demand_on, facts_of, pins_of};
 use std::alloc::{AllocError, Global};
 
@@ -59,47 +59,25 @@ fn are_apart(entity: Entity, pins: &[Pin<'_>]) -> bool {
     }
 }
 
-// Whether computing `each` rows for each of `rows` takes longer than computing all of them once.
-fn takes_longer(rows: usize, each: usize, all: usize) -> bool {
-    each > 0 && rows > all / each
-}
-
-// The need of a level that reads these rows of a node, where each needs the order of the node's rows of `entity`.
-fn need_of_node(tables: &Tables, rows: usize, entity: Entity, certname: &Text) -> Need {
-    let each = tables.of_node(entity, certname).count;
-    if takes_longer(rows, each, tables.count(entity)) {
-        Need::Often
-    } else {
-        Need::Never
-    }
-}
-
-// What a level that reads rows of this entity needs of them.
-fn own_need(tables: &Tables, entity: Entity, pins: &[Pin<'_>]) -> Need {
-    let apart = are_apart(entity, pins);
+// What a level that reads rows of this entity, of all nodes or of one, needs of them for all nodes.
+fn own_need(entity: Entity, pins: &[Pin<'_>]) -> Need {
     match demand_on(pins, "certname") {
-        Demand::Different => Need::Never,
-        Demand::Nothing => { if apart { Need::Once } else { Need::Often } }
-        Demand::Shows(certname) => {
-            if apart {
-                Need::Never
+        Demand::Nothing => {
+            if are_apart(entity, pins) {
+                Need::Once
             } else {
-                let rows = tables.of_node(entity, certname).count;
-                need_of_node(tables, rows, entity, certname)
+                Need::Often
             }
         }
+        _ => Need::Never,
     }
 }
 
-// What a level that reads rows of this entity needs of facts, if its filter names some.
-fn named_need(tables: &Tables, entity: Entity, pins: &[Pin<'_>]) -> Need {
+// What a level needs of facts for all nodes, if its filter names some.
+fn named_need(pins: &[Pin<'_>]) -> Need {
     match demand_on(pins, "certname") {
-        Demand::Different => Need::Never,
         Demand::Nothing => Need::Often,
-        Demand::Shows(certname) => {
-            let rows = tables.of_node(entity, certname).count;
-            need_of_node(tables, rows, Entity::Facts, certname)
-        }
+        _ => Need::Never,
     }
 }
 
@@ -118,7 +96,6 @@ fn greater(a: Need, b: Need) -> Need {
 // What a level of the entity `own` needs of an entity.
 fn need_of(
     alloc: Global,
-    tables: &Tables,
     entity: Entity,
     own: Entity,
     stage: &Stage<'_>,
@@ -127,39 +104,88 @@ fn need_of(
     let pins = pins_of(alloc, steps)?;
     let mut need = Need::Never;
     if own == entity {
-        need = own_need(tables, own, pins.as_slice());
+        need = own_need(own, pins.as_slice());
     }
     if entity == Entity::Facts && facts_of(alloc, steps)?.len() > 0 {
-        need = greater(need, named_need(tables, own, pins.as_slice()));
+        need = greater(need, named_need(pins.as_slice()));
     }
     Ok(need)
 }
 
 // What a level needs of an entity.
-fn level_need(
-    alloc: Global,
-    tables: &Tables,
-    entity: Entity,
-    stage: &Stage<'_>,
-) -> Result<Need, AllocError> {
+fn level_need(alloc: Global, entity: Entity, stage: &Stage<'_>) -> Result<Need, AllocError> {
     match stage.entity {
         None => Ok(Need::Never),
-        Some(own) => need_of(alloc, tables, entity, own, stage),
+        Some(own) => need_of(alloc, entity, own, stage),
+    }
+}
+
+// Prepares what a level that reads the rows of one node reads more than once.
+fn prepare_for_node(
+    alloc: Global,
+    tables: &mut Tables,
+    entity: Entity,
+    steps: &[Step<'_>],
+    pins: &[Pin<'_>],
+    certname: &Text,
+) -> Result<(), AllocError>
+    ensures { tables.new ≡ tables.old }
+{
+    if !are_apart(entity, pins) {
+        tables.prepare_node(entity, certname)?;
+    }
+    if facts_of(alloc, steps)?.len() > 0 {
+        tables.prepare_node(Entity::Facts, certname)?;
+    }
+    Ok(())
+}
+
+fn prepare_pinned(
+    alloc: Global,
+    tables: &mut Tables,
+    entity: Entity,
+    steps: &[Step<'_>],
+) -> Result<(), AllocError>
+    ensures { tables.new ≡ tables.old }
+{
+    let pins = pins_of(alloc, steps)?;
+    match demand_on(pins.as_slice(), "certname") {
+        Demand::Shows(certname) => {
+            prepare_for_node(alloc, tables, entity, steps, pins.as_slice(), certname)
+        }
+        _ => Ok(()),
+    }
+}
+
+fn prepare_level(alloc: Global, tables: &mut Tables, stage: &Stage<'_>) -> Result<(), AllocError>
+    ensures { tables.new ≡ tables.old }
+{
+    match stage.entity {
+        None => Ok(()),
+        Some(entity) => prepare_pinned(alloc, tables, entity, stage.steps.as_slice()),
     }
 }
 
 // ---- all levels
 
-// Whether the levels need the entity prepared.
-fn is_needed(
+fn prepare_levels(
     alloc: Global,
-    tables: &Tables,
-    entity: Entity,
+    tables: &mut Tables,
     stages: &[Stage<'_>],
-) -> Result<bool, AllocError> {
+) -> Result<(), AllocError>
+    ensures { tables.new ≡ tables.old }
+{
+    'preparing: for stage in stages {
+        prepare_level(alloc, tables, stage)?;
+    }
+    Ok(())
+}
+
+// Whether the levels need the entity prepared.
+fn is_needed(alloc: Global, entity: Entity, stages: &[Stage<'_>]) -> Result<bool, AllocError> {
     let mut once = false;
     for stage in stages {
-        match level_need(alloc, tables, entity, stage)? {
+        match level_need(alloc, entity, stage)? {
             Need::Never => {}
             Need::Once => {
                 if once {
@@ -181,7 +207,7 @@ fn prepare_needed(
 ) -> Result<(), AllocError>
     ensures { tables.new ≡ tables.old }
 {
-    if is_needed(alloc, tables, entity, stages)? {
+    if is_needed(alloc, entity, stages)? {
         tables.prepare(entity)?;
     }
     Ok(())
@@ -205,6 +231,7 @@ fn prepare_query(alloc: Global, tables: &mut Tables, query: &Query) -> Result<()
     ensures { tables.new ≡ tables.old }
 {
     let plan = plan_of(alloc, query.level())?;
+    prepare_levels(alloc, tables, plan.stages.as_slice())?;
     prepare_stages(alloc, tables, plan.stages.as_slice())
 }
 
