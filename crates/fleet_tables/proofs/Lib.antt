@@ -13,6 +13,7 @@ pub mod MarkLaws
 pub mod OwnLaws
 pub mod SpanNodes
 pub mod SeekLaws
+pub mod ActiveLaws
 pub mod ListedLaws
 pub mod SnapshotLaws
 pub mod LawfulLists

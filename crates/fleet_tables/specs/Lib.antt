@@ -1,4 +1,5 @@
 pub mod Asked
+pub mod Active
 pub mod Groups
 pub mod Rooms
 pub mod Stands

@@ -12,7 +12,7 @@
 //! the change that it was made for, and `Prepared` as its change. In `specs/`:
 //!
 //! - `Stands.antt`: the history that tables stand for.
-//! - `Asked.antt`: look-ups by certname.
+//! - `Asked.antt`: look-ups by certname. `Active.antt`: the rows of active nodes.
 //! - `Listed.antt`: the lists that `from_list` takes.
 //! - `Groups.antt`: how nodes are grouped. `Rooms.antt`: the memory that a change needs.
 //!
@@ -49,11 +49,13 @@
 //!   search.
 //! - `of_node`, `of_fact`, `of_resource`, `fact_place`, `seek`: the places of exactly the rows that a filter of all rows finds.
 //!   Those without a certname look into each node.
+//! - `active_count`: the number of rows whose node is active. It asks each node.
 //! - `snapshot` copies each kept change. `from_list` takes each list of lawful changes (`value`, `stands`, `further`).
 //! - `set_sweeps` and `mark` are the first steps of `from_list`; afterwards tables may stand for no history. Without memory
 //!   `mark` leaves the tables. At 2^62 nodes it refuses known nodes too.
 #![tactic(auto)]
 
+mod active;
 mod group;
 mod groups;
 mod listed;
