@@ -49,7 +49,7 @@
 //!   search.
 //! - `of_node`, `of_fact`, `of_resource`, `fact_place`, `seek`: the places of exactly the rows that a filter of all rows finds.
 //!   Those without a certname look into each node.
-//! - `active_count`: the number of rows whose node is active. It asks each node.
+//! - `active_count`: the number of rows whose node is active. It asks each node. `stand_by_certname`: the order of nodes, as a law.
 //! - `snapshot` copies each kept change. `from_list` takes each list of lawful changes (`value`, `stands`, `further`).
 //! - `set_sweeps` and `mark` are the first steps of `from_list`; afterwards tables may stand for no history. Without memory
 //!   `mark` leaves the tables. At 2^62 nodes it refuses known nodes too.
@@ -58,6 +58,7 @@
 mod active;
 mod group;
 mod groups;
+mod laws;
 mod listed;
 mod lookups;
 mod marks;
