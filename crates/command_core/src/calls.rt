@@ -4,6 +4,7 @@ ghost use Rattle.core_submits.specs.supersede_core.Waiting.{payload_bytes};
 ghost use Rattle.core_layout.specs.history_spec.Lawful.{HasStamp};
 ghost use Rattle.core_submits.specs.core_state.Seen.{down_of, down_by_of, events_of, CoreIsSound, IsSubmitted, IsFit};
 ghost use Rattle.core_submits.specs.core_state.Spelling.{HasSpelling};
+ghost use Rattle.core_submits.specs.core_state.compact_laws.Lawful.{IsLawfulTable};
 ghost use Rattle.core_submits.specs.Call.{CoreSubmits};
 ghost use Rattle.core_settles.specs.core_claims.Calls.{CoreClaims, CoreReleases, CoreFrees};
 ghost use Rattle.core_settles.specs.Settles.{IsVerdictOf};
@@ -164,6 +165,13 @@ impl<D: Disk + Drop, K: Keeper + Drop> Core<D, K> {
     /// A law: a core is sound between its calls. The call does nothing.
     pub fn is_sound(&self)
         ensures { CoreIsSound D.Disk K.Keeper self.now }
+    {
+        let _ = &self.state;
+    }
+
+    /// A law: the tables are lawful between the calls, so tables can be made from their list. The call does nothing.
+    pub fn is_lawful(&self)
+        ensures { IsLawfulTable self.now.tables }
     {
         let _ = &self.state;
     }

@@ -21,6 +21,7 @@
 //! contracts promise beside these:
 //! - A core is sound and writable between the calls: that is the type's invariant (`IsAtRest`), so no call requires it.
 //! - What [`lay_core`] left can be opened, undamaged ([`laid_files_can_be_opened`]).
+//! - The tables of a core are lawful, so tables can be made from their list (`is_lawful`).
 //! - `tables`, `discards`, `tally`, `pending`, `is_down` and `down_by` read exactly. `prepare` leaves the core as it is, also
 //!   without memory. `into_disks` returns the four disks.
 #![tactic(auto)]
