@@ -9,9 +9,9 @@ use Rattle.command_core.specs.core_claims.declared.answers.Claimed.{Claimed}
 use Rattle.command_core.specs.core_claims.declared.answers.Claimed.TheVariants as claimed
 use Rattle.command_core.specs.core_settles.declared.answers.Settled.{Settled}
 use Rattle.command_core.specs.core_settles.declared.answers.Settled.TheVariants as settled
-use Rattle.core_drain.specs.declared.ends.WorkEnd.{WorkEnd}
-use Rattle.core_drain.specs.declared.ends.WorkEnd.TheVariants as end
-use Rattle.core_drain.specs.Answers.{after_claim, after_settle}
+use Rattle.core_ends.specs.declared.ends.WorkEnd.{WorkEnd}
+use Rattle.core_ends.specs.declared.ends.WorkEnd.TheVariants as end
+use Rattle.core_ends.specs.Answers.{after_claim, after_settle}
 
 counts_from : {G : Type 0} (a now_a later_a b now_b later_b : ℕ) → now_a ≡ a → now_b ≡ b → PairCounts now_a later_a now_b later_b G → PairCounts a later_a b later_b G
 counts_from {G} a now_a later_a b now_b later_b same_a same_b h =

@@ -14,11 +14,11 @@ use Rattle.command_core.specs.core_settles.Call.{CoreSettles}
 use Rattle.core_course.specs.Sight.{sight_of}
 use Rattle.core_course.specs.Work.{Worked}
 use Rattle.core_course.proofs.Stretches.{worked_on}
-use Rattle.core_drain.proofs.Releases.{nothing_works}
-use Rattle.core_drain.specs.Answers.{after_claim, after_settle}
+use Rattle.core_ends.proofs.Releases.{nothing_works}
+use Rattle.core_ends.specs.Answers.{after_claim, after_settle}
 use Rattle.core_drain.specs.LastCall.{EndedBy, by_claim, by_settle, EndsByCall, TurnEndsByCall}
-use Rattle.core_drain.specs.declared.ends.WorkEnd.{WorkEnd}
-use Rattle.core_drain.specs.declared.ends.WorkEnd.TheVariants as end
+use Rattle.core_ends.specs.declared.ends.WorkEnd.{WorkEnd}
+use Rattle.core_ends.specs.declared.ends.WorkEnd.TheVariants as end
 
 module _ {D K : Type 0} (d : disk.Ghosts D) (k : keeper.Ghosts K) where
   -- work before the last call

@@ -1,21 +1,14 @@
-pub mod Links
-pub mod Records
-pub mod Fails
-pub mod Waits
-pub mod OneCalls
-pub mod Releases
-pub mod Submits
-pub mod Claims
-pub mod Settles
-pub mod Sweeps
-pub mod Later
 pub mod LastCall
-pub mod SettleEnds
-pub mod ClaimEnds
 pub mod Verdicts
 pub mod Calm
 pub mod Unclaimed
 -- What those above use of the crates below.
+pub use Rattle.core_ends.proofs.Fails as Fails
+pub use Rattle.core_ends.proofs.Links as Links
+pub use Rattle.core_ends.proofs.Releases as Releases
+pub use Rattle.core_ends.proofs.Submits as Submits
+pub use Rattle.core_ends.proofs.Sweeps as Sweeps
+pub use Rattle.core_ends.proofs.Later as Later
 pub use Rattle.command_decode.proofs.of_json_tree as of_json_tree
 pub use Rattle.command_decode.proofs.of_stamp_time as of_stamp_time
 pub use Rattle.command_decode.proofs.of_fleet_rows as of_fleet_rows

@@ -22,9 +22,9 @@ use Rattle.command_core.proofs.of_core_state.Tests.{not_claimed_stands}
 use Rattle.core_course.specs.Sight.{Sight, Stood, is_down}
 use Rattle.core_course.specs.Work.{Worked}
 use Rattle.core_course.proofs.Stretches.{history_joined}
-use Rattle.core_drain.specs.Ends.{NothingClaimed, ClaimsNoMore, LetsGo}
-use Rattle.core_drain.proofs.Claims.{ClaimSays}
-use Rattle.core_drain.proofs.Links.{core_up}
+use Rattle.core_ends.specs.Ends.{NothingClaimed, ClaimsNoMore, LetsGo}
+use Rattle.core_ends.proofs.Claims.{ClaimSays}
+use Rattle.core_ends.proofs.Links.{core_up}
 
 -- ---- events that let the command of a receipt go
 

@@ -11,9 +11,9 @@ use Rattle.command_core.specs.core_settles.declared.answers.Verdict.{Verdict}
 use Rattle.command_core.specs.core_settles.Call.{CoreSettles}
 use Rattle.core_course.specs.Sight.{sight_of}
 use Rattle.core_course.specs.Work.{Worked}
-use Rattle.core_drain.specs.Answers.{after_claim, after_settle}
-use Rattle.core_drain.specs.declared.ends.WorkEnd.{WorkEnd}
-use Rattle.core_drain.specs.declared.ends.WorkEnd.TheVariants.{Down, Memory}
+use Rattle.core_ends.specs.Answers.{after_claim, after_settle}
+use Rattle.core_ends.specs.declared.ends.WorkEnd.{WorkEnd}
+use Rattle.core_ends.specs.declared.ends.WorkEnd.TheVariants.{Down, Memory}
 
 -- Work led to some core, and a claim or a settle of it, the last call, answered the end.
 pub data EndedBy {D K : Type 0} (d : disk.Ghosts D) (k : keeper.Ghosts K) (end : WorkEnd) (old new : CoreState D K) : Type 0 where

@@ -1,7 +1,7 @@
-pub mod Ends
-pub mod Answers
 pub mod LastCall
 -- Re-exports for the crates above.
+pub use Rattle.core_ends.specs.Ends as Ends
+pub use Rattle.core_ends.specs.Answers as Answers
 pub use Rattle.command_decode.specs.text_spec as text_spec
 pub use Rattle.command_decode.specs.json_tree as json_tree
 pub use Rattle.core_course.specs.fleet_ports as fleet_ports
@@ -31,3 +31,4 @@ pub use Rattle.command_core.specs.core_settles as core_settles
 pub use Rattle.command_core.specs.core_sweeps as core_sweeps
 pub use Rattle.command_core.specs as command_core
 pub use Rattle.core_course.specs as core_course
+pub use Rattle.core_ends.specs as core_ends

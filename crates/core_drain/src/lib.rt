@@ -4,8 +4,7 @@
 //! answers a fault. Its contract says that the core stands for the history with the events of this work. It also says what the
 //! images of the disks stand for at each moment, and when each [`WorkEnd`] comes.
 //!
-//! The files `Submits`, `Claims`, `Settles`, `Releases` and `Sweeps` of `proofs/` cover one call of a core each. Each has a
-//! record of the clauses that matter here, and the lemma that one call is a sequence of one.
+//! What each end says, and what one call of a core does, stands in `core_ends`.
 //!
 //! The clauses of [`drain_alone`]:
 //! - `worked`: the events are claims, releases, supersedings, applied commands, failures and discards. After a call that took
@@ -21,16 +20,12 @@
 #![tactic(auto)]
 
 mod drain;
-mod ends;
 mod work;
 
 pub use drain::drain_alone;
-pub use ends::WorkEnd;
-pub use work::end_of_settle;
 
 // Re-exports for the crates above.
-pub use command_core::{
-    Claimed, Core, DownBy, Job, Keeper, LogKeeper, OpenCoreFault, Prepared, Settled, Submitted,
-    Swept, Tally, Verdict, lay_core, open_core,
+pub use core_ends::{
+    Claimed, Core, DownBy, Found, Job, Keeper, LogKeeper, OpenCoreFault, Prepared, Settled,
+    Submitted, Swept, Tally, Verdict, WorkEnd, end_of_settle, lay_core, open_core,
 };
-pub use core_course::Found;

@@ -5,13 +5,12 @@ ghost use Rattle.command_core.specs.core_state.Seen.{down_of, IsSubmitted, IsFit
 ghost use Rattle.command_core.specs.core_settles.Settles.{IsVerdictOf};
 ghost use Rattle.core_course.specs.Sight.{sight_of};
 ghost use Rattle.core_course.specs.Work.{Worked};
-ghost use Rattle.core_drain.specs.Answers.{after_settle};
-ghost use Rattle.core_drain.specs.Ends.{EndsHere, LetsGo};
+ghost use Rattle.core_ends.specs.Ends.{EndsHere, LetsGo};
 ghost use Rattle.core_drain.specs.LastCall.{TurnEndsByCall};
 
-use crate::ends::WorkEnd;
 use command_core::{Core, Job, Keeper, Prepared, Settled, Verdict};
 use command_decode::{DecodeFault, decode};
+use core_ends::{WorkEnd, end_of_settle};
 use fleet_ports::Disk;
 use fleet_rows::Change;
 use std::alloc::Global;
@@ -94,19 +93,4 @@ fn give_back<D: Disk + Drop, K: Keeper + Drop>(core: &mut Core<D, K>, job: Job) 
 {
     core.release(job);
     WorkEnd::Memory
-}
-
-/// The end that an answer of a settle means.
-pub fn end_of_settle(settled: &Settled) -> Option<WorkEnd>
-    ensures { result ≡ after_settle settled.now }
-{
-    match settled {
-        Settled::Applied | Settled::Discarded | Settled::Failed { .. } | Settled::NotClaimed =>
-            None,
-        Settled::StoreDown => Some(WorkEnd::StoreDown),
-        Settled::QueueFault => Some(WorkEnd::QueueFault),
-        Settled::Spent => Some(WorkEnd::Spent),
-        Settled::Down => Some(WorkEnd::Down),
-        Settled::Memory(_, _) => Some(WorkEnd::Memory),
-    }
 }

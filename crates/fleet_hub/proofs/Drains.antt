@@ -11,8 +11,8 @@ use Rattle.core_drain.specs.fleet_keeper.declared.keeper.Keeper as keeper
 use Rattle.core_drain.specs.core_course.Sight.{Sight, is_down, sight_of}
 use Rattle.core_drain.specs.core_course.Work.{IsWork, Worked}
 use Rattle.core_drain.proofs.of_core_course.Stretches.{worked_on, course_also}
-use Rattle.core_drain.specs.declared.ends.WorkEnd.{WorkEnd}
-use Rattle.core_drain.specs.declared.ends.WorkEnd.TheVariants.{Done, QueueFault, StoreDown, Spent, Down, Memory}
+use Rattle.core_drain.specs.core_ends.declared.ends.WorkEnd.{WorkEnd}
+use Rattle.core_drain.specs.core_ends.declared.ends.WorkEnd.TheVariants.{Done, QueueFault, StoreDown, Spent, Down, Memory}
 use Rattle.core_drain.specs.Ends.{EndsSo, EndsHere, NothingClaimed}
 use Rattle.core_drain.specs.LastCall.{EndsByCall}
 use Rattle.core_drain.proofs.LastCall.{by_call_later}
@@ -20,7 +20,7 @@ use Rattle.core_drain.proofs.Links.{core_up}
 use Rattle.core_drain.proofs.Releases.{FreeSays, free_claims_works, free_claims_down, nothing_works}
 use Rattle.core_drain.proofs.Later.{here_later, ends_so, not_down}
 use Rattle.core_drain.proofs.Unclaimed.{down_claims_none}
-use Rattle.fleet_hub.specs.Follows.{MayWrite, is_work, is_submit, is_sweep, WentDown, by_store, by_queue, Follows}
+use Rattle.hub_calls.specs.Follows.{MayWrite, is_work, is_submit, is_sweep, WentDown, by_store, by_queue, Follows}
 use Rattle.fleet_hub.specs.Finish.{Finished}
 
 -- ---- which log a core is down by

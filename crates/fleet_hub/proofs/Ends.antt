@@ -10,10 +10,10 @@ use Rattle.core_drain.specs.core_settles.declared.answers.Verdict.{Verdict}
 use Rattle.core_drain.specs.core_settles.Settles.{IsMemory}
 use Rattle.core_drain.specs.core_course.Sight.{Sight}
 use Rattle.core_drain.specs.Answers.{after_claim, after_settle}
-use Rattle.core_drain.specs.declared.ends.WorkEnd.{WorkEnd}
-use Rattle.fleet_hub.specs.declared.entry.Entry.{Entry}
-use Rattle.fleet_hub.specs.Calls.{ClaimDoes, SettleDoes}
-use Rattle.fleet_hub.specs.Seen.{OneCall}
+use Rattle.core_drain.specs.core_ends.declared.ends.WorkEnd.{WorkEnd}
+use Rattle.hub_calls.specs.declared.entry.Entry.{Entry}
+use Rattle.hub_calls.specs.Calls.{ClaimDoes, SettleDoes}
+use Rattle.hub_calls.specs.Seen.{OneCall}
 use Rattle.fleet_hub.specs.Ends.{claimed_job, returned_job, WorkCalls, none, claim, settle, LastCall, by_claim, by_settle, by_release, WorksOn}
 
 -- what differs from each answer that hands a job out hands none out

@@ -10,11 +10,11 @@ use Rattle.core_drain.specs.core_settles.declared.answers.Verdict.{Verdict}
 use Rattle.core_drain.specs.core_settles.Settles.{IsMemory}
 use Rattle.core_drain.specs.core_course.Sight.{Sight}
 use Rattle.core_drain.specs.Answers.{after_claim, after_settle}
-use Rattle.core_drain.specs.declared.ends.WorkEnd.{WorkEnd}
-use Rattle.core_drain.specs.declared.ends.WorkEnd.TheVariants.{Memory}
-use Rattle.fleet_hub.specs.declared.entry.Entry.{Entry}
-use Rattle.fleet_hub.specs.Calls.{ClaimDoes, ReleaseDoes, SettleDoes}
-use Rattle.fleet_hub.specs.Seen.{OneCall}
+use Rattle.core_drain.specs.core_ends.declared.ends.WorkEnd.{WorkEnd}
+use Rattle.core_drain.specs.core_ends.declared.ends.WorkEnd.TheVariants.{Memory}
+use Rattle.hub_calls.specs.declared.entry.Entry.{Entry}
+use Rattle.hub_calls.specs.Calls.{ClaimDoes, ReleaseDoes, SettleDoes}
+use Rattle.hub_calls.specs.Seen.{OneCall}
 
 -- ---- the job at hand
 

@@ -3,8 +3,8 @@ use Rattle.std.specs.Prelude.{◌≡◌, true, false, Some}
 use Rattle.core_drain.specs.core_state.declared.state.CoreState.{CoreState}
 use Rattle.core_drain.specs.core_course.Sight.{Sight, is_down}
 use Rattle.core_drain.specs.core_course.Work.{Worked}
-use Rattle.core_drain.specs.declared.ends.WorkEnd.{WorkEnd}
-use Rattle.core_drain.specs.declared.ends.WorkEnd.TheVariants.{QueueFault, StoreDown}
+use Rattle.core_drain.specs.core_ends.declared.ends.WorkEnd.{WorkEnd}
+use Rattle.core_drain.specs.core_ends.declared.ends.WorkEnd.TheVariants.{QueueFault, StoreDown}
 use Rattle.core_drain.specs.Ends.{EndsHere, NothingClaimed}
 
 -- If the core is up, the caller settles what is left. If the core is down, it is left unchanged, and the end names the log. If it

@@ -3,22 +3,19 @@ ghost use Rattle.std.specs.Prelude.{◌≡◌, ◌↔◌, ◌≤◌, ◌+◌, tr
 ghost use Rattle.core_drain.specs.core_state.Seen.{down_of};
 ghost use Rattle.core_drain.specs.core_course.Sight.{sight_of};
 ghost use Rattle.core_drain.specs.core_course.Work.{Worked};
-ghost use Rattle.core_drain.specs.declared.ends.WorkEnd.TheVariants as end;
+ghost use Rattle.core_drain.specs.core_ends.declared.ends.WorkEnd.TheVariants as end;
 ghost use Rattle.core_drain.specs.Ends.{EndsSo, NothingClaimed};
 ghost use Rattle.core_drain.specs.LastCall.{EndsByCall};
 ghost use Rattle.fleet_hub.specs.Finish.{Finished};
-ghost use Rattle.fleet_hub.specs.Follows.{Follows};
+ghost use Rattle.hub_calls.specs.Follows.{Follows};
 ghost use Rattle.fleet_rows.specs.Limits.{most_workers};
 
-use crate::crossing::values_go;
-use crate::gate::Gate;
-use crate::hub::{Hub, Pass};
-use crate::purpose::WorkAlone;
-use crate::under_lock::Lock;
+use crate::hub::Hub;
 use crate::work::work_at;
 use core_drain::{Core, DownBy, Keeper, WorkEnd, drain_alone};
 use fleet_ports::Disk;
 use fleet_rows::MOST_WORKERS;
+use hub_calls::{Gate, Lock, Pass, WorkAlone, values_go};
 use std::alloc::{AllocError, AllocFailed, Global};
 use std::sync::Wait;
 use std::thread;

@@ -6,11 +6,11 @@
 //! commands nor sweeps.
 //!
 //! Contracts see a [`Pass`] as `turn_lock` does. The list that a pass has seen is the core as it came under the lock, followed by
-//! its events, oldest first. Each call says what it did between the core found and the core left (`OneCall` in
-//! `specs/Seen.antt`). The list of the core found starts with all that the pass has seen.
+//! its events, oldest first. Each call says what it did between the core found and the core left (`OneCall` in `hub_calls`). The
+//! list of the core found starts with all that the pass has seen.
 //!
-//! [`Hub::close`] says that the calls of all passes lead from the first core to the last (`Follows` in `specs/Follows.antt`). The
-//! last core stands for each history that the first stood for, with further events. Each moment within is covered, call by call.
+//! [`Hub::close`] says that the calls of all passes lead from the first core to the last (`Follows` in `hub_calls`). The last
+//! core stands for each history that the first stood for, with further events. Each moment within is covered, call by call.
 //!
 //! No contract says that a call which waits returns.
 //!
@@ -27,25 +27,16 @@
 //!   its thread's memory grows once.
 #![tactic(auto)]
 
-mod crossing;
 mod draining;
-mod entry;
-mod followed;
-mod gate;
 mod hub;
-mod purpose;
-mod under_lock;
 mod work;
 
 pub use draining::{Drained, drain};
-pub use entry::Entry;
-pub use followed::Followed;
-pub use gate::{Gate, OpenGate};
-pub use hub::{Hub, Pass};
-pub use purpose::{AllCalls, Purpose, WorkAlone};
+pub use hub::Hub;
 
 // Re-exports for the crates above.
 pub use core_drain::{
     Claimed, Core, DownBy, Job, Keeper, LogKeeper, OpenCoreFault, Prepared, Settled, Submitted,
     Swept, Tally, Verdict, WorkEnd, lay_core, open_core,
 };
+pub use hub_calls::{AllCalls, Entry, Followed, Gate, OpenGate, Pass, Purpose, WorkAlone};

@@ -5,17 +5,15 @@ ghost use Rattle.core_drain.specs.core_settles.Settles.{IsVerdictOf};
 ghost use Rattle.core_drain.specs.core_state.Seen.{IsFit};
 ghost use Rattle.core_drain.specs.core_course.Sight.{sight_of};
 ghost use Rattle.fleet_hub.specs.Ends.{LastCall, WorksOn};
-ghost use Rattle.fleet_hub.specs.Entries.{WasSubmitted};
-ghost use Rattle.fleet_hub.specs.Seen.{PassGoesOn};
+ghost use Rattle.hub_calls.specs.Entries.{WasSubmitted};
+ghost use Rattle.hub_calls.specs.Seen.{PassGoesOn};
 
-use crate::gate::Gate;
-use crate::hub::{Hub, Pass};
-use crate::purpose::Purpose;
-use crate::under_lock::{Lock, claim, release, settle};
+use crate::hub::Hub;
 use command_decode::DecodeFault;
 use core_drain::{Claimed, Job, Keeper, Prepared, Settled, Verdict, WorkEnd, end_of_settle};
 use fleet_ports::Disk;
 use fleet_rows::Change;
+use hub_calls::{Gate, Lock, Pass, Purpose, claim, release, settle};
 use std::alloc::Global;
 use std::sync::Wait;
 

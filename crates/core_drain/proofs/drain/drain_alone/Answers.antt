@@ -1,10 +1,10 @@
 use Rattle.std.proofs.Common.{◌∙◌, false, Some, refl, ap, sym}
 use Rattle.core_course.specs.Sight.{Sight, sight}
 use Rattle.core_course.proofs.Stretches.{worked_on}
-use Rattle.core_drain.proofs.Releases.{FreeSays, free_claims_works, free_claims_down, nothing_works}
-use Rattle.core_drain.specs.declared.ends.WorkEnd.{WorkEnd}
+use Rattle.core_ends.proofs.Releases.{FreeSays, free_claims_works, free_claims_down, nothing_works}
+use Rattle.core_ends.specs.declared.ends.WorkEnd.{WorkEnd}
 use Rattle.core_drain.proofs.Calm.{counts_as, counts_calm, counts_still, counts_then, end_fault}
-use Rattle.core_drain.proofs.Later.{here_later, ends_so}
+use Rattle.core_ends.proofs.Later.{here_later, ends_so}
 use Rattle.core_drain.proofs.Unclaimed.{freed_claims_none, still_none, down_claims_none}
 use Rattle.core_drain.proofs.LastCall.{by_call_later}
 use Rattle.core_drain.proofs.drain.drain_alone.Goals as goal

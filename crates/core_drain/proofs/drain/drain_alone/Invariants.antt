@@ -4,7 +4,7 @@ use Rattle.command_core.specs.core_state.Puts.{QueueCounts}
 use Rattle.command_core.specs.core_state.Seen.{down_of}
 use Rattle.core_course.specs.Sight.{Sight, sight}
 use Rattle.core_course.specs.Work.{Worked}
-use Rattle.core_drain.specs.Ends.{NothingClaimed}
+use Rattle.core_ends.specs.Ends.{NothingClaimed}
 use Rattle.core_drain.proofs.drain.drain_alone.Given as goal
 
 abbrev pub invariant-turns : goal.invariant-turns

@@ -3,13 +3,13 @@ use Rattle.command_core.specs.core_claims.declared.answers.Claimed.{Claimed}
 use Rattle.command_core.specs.core_claims.Claims.{HasSubmittedJob}
 use Rattle.core_course.specs.Sight.{Sight, sight}
 use Rattle.core_course.proofs.Stretches.{worked_on}
-use Rattle.core_drain.proofs.Claims.{ClaimSays, claim_events, claim_passes, claim_works}
-use Rattle.core_drain.specs.Ends.{EndsHere}
-use Rattle.core_drain.specs.declared.ends.WorkEnd.{WorkEnd}
-use Rattle.core_drain.specs.Answers.{after_claim}
+use Rattle.core_ends.proofs.Claims.{ClaimSays, claim_events, claim_passes, claim_works}
+use Rattle.core_ends.specs.Ends.{EndsHere}
+use Rattle.core_ends.specs.declared.ends.WorkEnd.{WorkEnd}
+use Rattle.core_ends.specs.Answers.{after_claim}
 use Rattle.core_drain.proofs.Calm.{counts_as, counts_calm, counts_then, claim_fault}
-use Rattle.core_drain.proofs.ClaimEnds.{ClaimAnswers, claim_ends}
-use Rattle.core_drain.proofs.Later.{here_later}
+use Rattle.core_ends.proofs.ClaimEnds.{ClaimAnswers, claim_ends}
+use Rattle.core_ends.proofs.Later.{here_later}
 use Rattle.core_drain.proofs.Unclaimed.{claims_none, claimed_let_go}
 use Rattle.core_drain.proofs.LastCall.{turn_later, last_claim}
 use Rattle.core_drain.proofs.drain.turn.Goals as goal

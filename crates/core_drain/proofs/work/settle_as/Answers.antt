@@ -1,12 +1,12 @@
 use Rattle.std.proofs.Common.{◌∙◌, Option, Some, ap, sym, subst}
 use Rattle.core_course.specs.Sight.{Sight, sight}
 use Rattle.core_course.proofs.Stretches.{worked_on}
-use Rattle.core_drain.proofs.Settles.{SettleSays, settle_works}
-use Rattle.core_drain.specs.Ends.{EndsHere}
-use Rattle.core_drain.specs.Answers.{after_settle}
-use Rattle.core_drain.specs.declared.ends.WorkEnd.{WorkEnd}
+use Rattle.core_ends.proofs.Settles.{SettleSays, settle_works}
+use Rattle.core_ends.specs.Ends.{EndsHere}
+use Rattle.core_ends.specs.Answers.{after_settle}
+use Rattle.core_ends.specs.declared.ends.WorkEnd.{WorkEnd}
 use Rattle.core_drain.proofs.Calm.{counts_as, counts_calm, counts_still, counts_then, settle_fault, memory_is_calm}
-use Rattle.core_drain.proofs.SettleEnds.{SettleAnswers, settle_ends}
+use Rattle.core_ends.proofs.SettleEnds.{SettleAnswers, settle_ends}
 use Rattle.core_drain.proofs.Unclaimed.{settle_lets_go, given_let_go}
 use Rattle.core_drain.proofs.LastCall.{last_settle, memory_ends}
 use Rattle.core_drain.proofs.work.settle_as.Goals as goal

@@ -2,7 +2,7 @@ use Rattle.std.proofs.Common.{◌∙◌, Some, None, subst}
 use Rattle.turn_lock.proofs.Prefixes.{prefix_trans}
 use Rattle.core_drain.specs.core_claims.declared.answers.Claimed.{Claimed}
 use Rattle.core_drain.specs.core_course.Sight.{Sight, sight}
-use Rattle.fleet_hub.specs.Seen.{HasJob}
+use Rattle.hub_calls.specs.Seen.{HasJob}
 use Rattle.fleet_hub.proofs.Ends.{works_later, claims_job, last_claim}
 use Rattle.fleet_hub.proofs.work.turn.Goals as goal
 

@@ -1,6 +1,6 @@
 use Rattle.std.proofs.Common.{◌≡◌, true, false, sym, subst, ◌∙◌}
 use Rattle.fleet_hub.specs.core_course.Sight.{Sight, sight}
-use Rattle.fleet_hub.specs.core_drain.declared.ends.WorkEnd.{WorkEnd}
+use Rattle.fleet_hub.specs.core_drain.core_ends.declared.ends.WorkEnd.{WorkEnd}
 use Rattle.fleet_hub.specs.core_drain.Ends.{EndsSo}
 use Rattle.spool_run.proofs.item.drain_all.Goals as goal
 

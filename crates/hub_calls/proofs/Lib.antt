@@ -1,0 +1,4 @@
+pub mod Entries
+pub mod Steps
+pub mod Calls
+pub mod Crosses
