@@ -1,5 +1,4 @@
 pub mod LastCall
-pub mod Verdicts
 pub mod Calm
 pub mod Unclaimed
 -- What those above use of the crates below.
@@ -9,6 +8,7 @@ pub use Rattle.core_ends.proofs.Releases as Releases
 pub use Rattle.core_ends.proofs.Submits as Submits
 pub use Rattle.core_ends.proofs.Sweeps as Sweeps
 pub use Rattle.core_ends.proofs.Later as Later
+pub use Rattle.core_ends.proofs.Verdicts as Verdicts
 pub use Rattle.command_decode.proofs.of_json_tree as of_json_tree
 pub use Rattle.command_decode.proofs.of_stamp_time as of_stamp_time
 pub use Rattle.command_decode.proofs.of_fleet_rows as of_fleet_rows

@@ -27,5 +27,5 @@ pub use drain::drain_alone;
 // Re-exports for the crates above.
 pub use core_ends::{
     Claimed, Core, DownBy, Found, Job, Keeper, LogKeeper, OpenCoreFault, Prepared, Settled,
-    Submitted, Swept, Tally, Verdict, WorkEnd, end_of_settle, lay_core, open_core,
+    Submitted, Swept, Tally, Verdict, WorkEnd, lay_core, open_core,
 };

@@ -11,6 +11,7 @@ pub mod Sweeps
 pub mod Later
 pub mod SettleEnds
 pub mod ClaimEnds
+pub mod Verdicts
 -- What those above use of the crates below.
 pub use Rattle.command_decode.proofs.of_json_tree as of_json_tree
 pub use Rattle.command_decode.proofs.of_stamp_time as of_stamp_time

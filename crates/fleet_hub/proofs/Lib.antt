@@ -1,5 +1,4 @@
 pub mod Drains
-pub mod Ends
 -- What those above use of the crates below.
 pub use Rattle.hub_calls.proofs.Entries as Entries
 pub use Rattle.core_drain.proofs.of_table_machine as of_table_machine

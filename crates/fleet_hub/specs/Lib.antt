@@ -1,10 +1,10 @@
 pub mod Finish
-pub mod Ends
 -- Re-exports for the crates above.
 pub use Rattle.hub_calls.specs.Entries as Entries
 pub use Rattle.hub_calls.specs.Follows as Follows
 pub use Rattle.hub_calls.specs.Seen as Seen
 pub use Rattle.hub_calls.specs.Calls as Calls
+pub use Rattle.hub_work.specs.Ends as Ends
 pub use Rattle.core_drain.specs.log_pair as log_pair
 pub use Rattle.core_drain.specs.fleet_rows as fleet_rows
 pub use Rattle.core_drain.specs.history_spec as history_spec
@@ -29,4 +29,3 @@ pub use Rattle.core_drain.specs.core_settles as core_settles
 pub use Rattle.core_drain.specs.core_sweeps as core_sweeps
 pub use Rattle.core_drain.specs.core_course as core_course
 pub use Rattle.core_drain.specs as core_drain
-pub use Rattle.hub_calls.specs as hub_calls

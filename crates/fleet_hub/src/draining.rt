@@ -11,11 +11,11 @@ ghost use Rattle.hub_calls.specs.Follows.{Follows};
 ghost use Rattle.fleet_rows.specs.Limits.{most_workers};
 
 use crate::hub::Hub;
-use crate::work::work_at;
 use core_drain::{Core, DownBy, Keeper, WorkEnd, drain_alone};
 use fleet_ports::Disk;
 use fleet_rows::MOST_WORKERS;
-use hub_calls::{Gate, Lock, Pass, WorkAlone, values_go};
+use hub_calls::{Lock, Pass, WorkAlone, values_go};
+use hub_work::{Gate, work_at};
 use std::alloc::{AllocError, AllocFailed, Global};
 use std::sync::Wait;
 use std::thread;

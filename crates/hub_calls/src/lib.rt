@@ -6,20 +6,17 @@
 //! from the first core to the last (`Follows` in `specs/Follows.antt`).
 //!
 //! - A [`Purpose`] says whether a hub takes commands and sweeps ([`AllCalls`]) or work alone ([`WorkAlone`]).
-//! - A [`Gate`] decodes for workers, outside the lock.
 //! - [`values_go`] shows that a core may go from thread to thread.
 #![tactic(auto)]
 
 mod crossing;
 mod entry;
 mod followed;
-mod gate;
 mod purpose;
 mod under_lock;
 
 pub use crossing::values_go;
 pub use entry::Entry;
 pub use followed::Followed;
-pub use gate::{Gate, OpenGate};
 pub use purpose::{AllCalls, Purpose, WorkAlone};
 pub use under_lock::{Lock, Pass, claim, release, settle};

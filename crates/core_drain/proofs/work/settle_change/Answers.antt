@@ -1,6 +1,6 @@
 use Rattle.std.proofs.Common.{◌∙◌, Ok, sym, ap}
 use Rattle.core_drain.proofs.Calm.{counts_still, memory_is_calm}
-use Rattle.core_drain.proofs.Verdicts.{is_lawful}
+use Rattle.core_ends.proofs.Verdicts.{is_lawful}
 use Rattle.core_drain.proofs.LastCall.{memory_ends}
 use Rattle.core_drain.proofs.work.settle_change.Goals as goal
 

@@ -5,7 +5,7 @@ use Rattle.command_decode.specs.Answers.{RefusedAs}
 use Rattle.command_decode.specs.declared.fault.DecodeFault.{DecodeFault}
 use Rattle.command_decode.specs.declared.fault.DecodeFault.TheVariants.{Refused}
 use Rattle.core_drain.proofs.Calm.{counts_still, memory_is_calm}
-use Rattle.core_drain.proofs.Verdicts.{is_change, is_refusal}
+use Rattle.core_ends.proofs.Verdicts.{is_change, is_refusal}
 use Rattle.core_drain.proofs.LastCall.{memory_ends}
 use Rattle.core_drain.proofs.work.work_on.Goals as goal
 

@@ -1,11 +1,11 @@
 use Rattle.std.proofs.Common.{◌∙◌, Ok, Err, sym, ap, subst}
-use Rattle.core_drain.specs.fleet_rows.declared.command.Command.{Command}
-use Rattle.core_drain.specs.wire_spec.Decode.{DecodeOf}
-use Rattle.core_drain.specs.command_decode.Answers.{RefusedAs}
-use Rattle.core_drain.specs.command_decode.declared.fault.DecodeFault.{DecodeFault}
-use Rattle.core_drain.specs.command_decode.declared.fault.DecodeFault.TheVariants.{Refused}
-use Rattle.core_drain.proofs.Verdicts.{is_change, is_refusal}
-use Rattle.fleet_hub.proofs.work.work_on.Goals as goal
+use Rattle.core_ends.specs.fleet_rows.declared.command.Command.{Command}
+use Rattle.core_ends.specs.wire_spec.Decode.{DecodeOf}
+use Rattle.core_ends.specs.command_decode.Answers.{RefusedAs}
+use Rattle.core_ends.specs.command_decode.declared.fault.DecodeFault.{DecodeFault}
+use Rattle.core_ends.specs.command_decode.declared.fault.DecodeFault.TheVariants.{Refused}
+use Rattle.core_ends.proofs.Verdicts.{is_change, is_refusal}
+use Rattle.hub_work.proofs.work.work_on.Goals as goal
 
 pub settle_change-requires-clause-decodes : goal.settle_change-requires-clause-decodes
 settle_change-requires-clause-decodes g c =

@@ -1,8 +1,8 @@
 use Rattle.std.proofs.Common.{◌∙◌, Some}
 use Rattle.turn_lock.proofs.Prefixes.{prefix_trans}
-use Rattle.core_drain.specs.core_course.Sight.{Sight, sight}
-use Rattle.fleet_hub.proofs.Ends.{last_later, settle_returns, last_settle}
-use Rattle.fleet_hub.proofs.work.settle_as.Goals as goal
+use Rattle.core_ends.specs.core_course.Sight.{Sight, sight}
+use Rattle.hub_work.proofs.Ends.{last_later, settle_returns, last_settle}
+use Rattle.hub_work.proofs.work.settle_as.Goals as goal
 
 pub returns-in-Memory-clause-pass : goal.returns-in-Memory-clause-pass
 returns-in-Memory-clause-pass g c =

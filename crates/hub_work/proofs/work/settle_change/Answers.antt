@@ -1,6 +1,6 @@
 use Rattle.std.proofs.Common.{◌∙◌, Ok, sym, ap}
-use Rattle.core_drain.proofs.Verdicts.{is_lawful}
-use Rattle.fleet_hub.proofs.work.settle_change.Goals as goal
+use Rattle.core_ends.proofs.Verdicts.{is_lawful}
+use Rattle.hub_work.proofs.work.settle_change.Goals as goal
 
 pub of-requires-clause-lawful : goal.of-requires-clause-lawful
 of-requires-clause-lawful g c = is_lawful c.args.job.command c.args.change c.requires.fit c.requires.decodes

@@ -1,10 +1,10 @@
 use Rattle.std.proofs.Common.{◌∙◌, Some, None, subst}
 use Rattle.turn_lock.proofs.Prefixes.{prefix_trans}
-use Rattle.core_drain.specs.core_claims.declared.answers.Claimed.{Claimed}
-use Rattle.core_drain.specs.core_course.Sight.{Sight, sight}
+use Rattle.core_ends.specs.core_claims.declared.answers.Claimed.{Claimed}
+use Rattle.core_ends.specs.core_course.Sight.{Sight, sight}
 use Rattle.hub_calls.specs.Seen.{HasJob}
-use Rattle.fleet_hub.proofs.Ends.{works_later, claims_job, last_claim}
-use Rattle.fleet_hub.proofs.work.turn.Goals as goal
+use Rattle.hub_work.proofs.Ends.{works_later, claims_job, last_claim}
+use Rattle.hub_work.proofs.work.turn.Goals as goal
 
 pub work_on-requires-clause-submitted : goal.work_on-requires-clause-submitted
 work_on-requires-clause-submitted g c = (subst (λ (came : Claimed). HasJob came c.claim.new.pass.seen) c.in-Job.is c.claim.ensures.job).0

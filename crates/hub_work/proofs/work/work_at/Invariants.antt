@@ -1,9 +1,9 @@
 -- So far the pass is of the hub, with its spares, and has seen more, with further holds; and no job is at hand.
 use Rattle.std.proofs.Common.{◌≡◌, None}
 use mathlib.Core.List.{IsPrefix}
-use Rattle.core_drain.specs.core_course.Sight.{Sight, sight}
-use Rattle.fleet_hub.specs.Ends.{WorkCalls}
-use Rattle.fleet_hub.proofs.work.work_at.Given as goal
+use Rattle.core_ends.specs.core_course.Sight.{Sight, sight}
+use Rattle.hub_work.specs.Ends.{WorkCalls}
+use Rattle.hub_work.proofs.work.work_at.Given as goal
 
 abbrev pub invariant-turns : goal.invariant-turns
 invariant-turns g l =

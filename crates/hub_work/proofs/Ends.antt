@@ -1,20 +1,20 @@
 -- What a worker calls, over several calls.
 use Rattle.std.proofs.Common.{◌≡◌, ◌≢◌, ℕ, Bool, Option, Some, None, refl, sym, ap, subst}
 use Rattle.turn_lock.specs.Seen.{PassView}
-use Rattle.core_drain.specs.core_claims.declared.answers.Claimed.{Claimed}
-use Rattle.core_drain.specs.core_claims.declared.answers.Claimed.TheVariants as claimed
-use Rattle.core_drain.specs.core_claims.declared.job.Job.{Job}
-use Rattle.core_drain.specs.core_settles.declared.answers.Settled.{Settled}
-use Rattle.core_drain.specs.core_settles.declared.answers.Settled.TheVariants as settled
-use Rattle.core_drain.specs.core_settles.declared.answers.Verdict.{Verdict}
-use Rattle.core_drain.specs.core_settles.Settles.{IsMemory}
-use Rattle.core_drain.specs.core_course.Sight.{Sight}
-use Rattle.core_drain.specs.Answers.{after_claim, after_settle}
-use Rattle.core_drain.specs.core_ends.declared.ends.WorkEnd.{WorkEnd}
+use Rattle.core_ends.specs.core_claims.declared.answers.Claimed.{Claimed}
+use Rattle.core_ends.specs.core_claims.declared.answers.Claimed.TheVariants as claimed
+use Rattle.core_ends.specs.core_claims.declared.job.Job.{Job}
+use Rattle.core_ends.specs.core_settles.declared.answers.Settled.{Settled}
+use Rattle.core_ends.specs.core_settles.declared.answers.Settled.TheVariants as settled
+use Rattle.core_ends.specs.core_settles.declared.answers.Verdict.{Verdict}
+use Rattle.core_ends.specs.core_settles.Settles.{IsMemory}
+use Rattle.core_ends.specs.core_course.Sight.{Sight}
+use Rattle.core_ends.specs.Answers.{after_claim, after_settle}
+use Rattle.core_ends.specs.declared.ends.WorkEnd.{WorkEnd}
 use Rattle.hub_calls.specs.declared.entry.Entry.{Entry}
 use Rattle.hub_calls.specs.Calls.{ClaimDoes, SettleDoes}
 use Rattle.hub_calls.specs.Seen.{OneCall}
-use Rattle.fleet_hub.specs.Ends.{claimed_job, returned_job, WorkCalls, none, claim, settle, LastCall, by_claim, by_settle, by_release, WorksOn}
+use Rattle.hub_work.specs.Ends.{claimed_job, returned_job, WorkCalls, none, claim, settle, LastCall, by_claim, by_settle, by_release, WorksOn}
 
 -- what differs from each answer that hands a job out hands none out
 no_job : (came : Claimed) → ((job : Job) → came ≢ claimed.Job job) → claimed_job came ≡ None

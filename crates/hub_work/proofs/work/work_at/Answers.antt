@@ -1,9 +1,9 @@
 use Rattle.std.proofs.Common.{◌∙◌, None, refl}
 use Rattle.turn_lock.proofs.Prefixes.{prefix_refl, prefix_trans}
-use Rattle.core_drain.specs.core_course.Sight.{Sight, sight}
-use Rattle.fleet_hub.specs.Ends.{none}
-use Rattle.fleet_hub.proofs.Ends.{calls_join, last_later}
-use Rattle.fleet_hub.proofs.work.work_at.Goals as goal
+use Rattle.core_ends.specs.core_course.Sight.{Sight, sight}
+use Rattle.hub_work.specs.Ends.{none}
+use Rattle.hub_work.proofs.Ends.{calls_join, last_later}
+use Rattle.hub_work.proofs.work.work_at.Goals as goal
 
 pub turns-init : goal.turns-init
 turns-init g c = (refl, refl, prefix_refl c.args.pass.now.seen, prefix_refl c.args.pass.now.holds, none)
