@@ -72,7 +72,8 @@ module _ {D K : Type 0} (w : Sight D K) where
       open_later h = record {
         waits = waits_later h.waits;
         receipt = h.receipt;
-        moment = h.moment;
+        of_command = h.of_command;
+        command_is = λ start stood. h.command_is start (p.stands start stood);
         stands = λ start stood. h.stands start (p.stands start stood);
         more = h.more ++ more;
         events = h.events ∙ (ap (λ (es : History). h.more ++ es) p.events ∙ sym (append_assoc h.more more a.events.list));

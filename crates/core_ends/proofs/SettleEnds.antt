@@ -8,7 +8,7 @@ use Rattle.command_core.specs.record_spec.Store.{store_text}
 use Rattle.command_core.specs.record_spec.declared.queue.QueueRecord.TheVariants as queue
 use Rattle.command_core.specs.record_spec.declared.store.StoreRecord.TheVariants as store
 use Rattle.command_core.specs.core_spec.declared.event.Event.TheVariants.{Release}
-use Rattle.command_core.specs.core_spec.History.{History, Standing, queued, standing}
+use Rattle.command_core.specs.core_spec.History.{History, Standing, command, queued, standing}
 use Rattle.command_core.specs.core_spec.Legal.{IsLegal}
 use Rattle.command_core.specs.core_spec.Pending.{pending_of}
 use Rattle.core_course.specs.core_machine.Claims.{is_claimed}
@@ -33,7 +33,7 @@ use Rattle.core_ends.proofs.Fails.{rose_behind}
 use Rattle.core_ends.proofs.Records.{none_more}
 use Rattle.core_ends.proofs.OneCalls.{settled_at_once}
 use Rattle.core_ends.proofs.Releases.{nothing_works}
-use Rattle.core_ends.proofs.Settles.{SettleSays, settle_passes}
+use Rattle.core_ends.proofs.Settles.{SettleSays, settle_command, settle_passes}
 use Rattle.core_ends.proofs.Waits.{released_waits}
 use Rattle.core_ends.specs.Answers.{after_settle}
 use Rattle.core_ends.specs.Ends.{SomethingWaits, RoseInLast, IsLeft, to_settle, LacksDone, ChangeIsOpen, EndsHere}
@@ -151,7 +151,9 @@ module _ {D K : Type 0} (w : Sight D K) where
     change_open says a is = record {
       waits = claim_left job.receipt old new (a.waits tt) says.adds is;
       receipt = job.receipt;
-      moment = Some job.command.received;
+      of_command = job.command;
+      command_is = λ start stood.
+          ap (λ (es : History). command job.receipt (es ++ start)) says.adds ∙ settle_command w settled.StoreDown job v old new submitted decodes says start stood;
       stands = λ start stood.
           let held = stood.holds.says in
           ap (λ (es : History). standing job.receipt (es ++ start)) says.adds

@@ -2,9 +2,10 @@
 use Rattle.std.specs.Prelude.{◌≡◌, ◌≢◌, ◌⊎◌, ℕ, ◌≤◌, ℤ, true, false, List, [], ◌∷◌, ◌++◌, Option, Some, None, IsTrue}
 use Rattle.core_course.specs.fleet_ports.Counts.{RoseBy}
 use Rattle.command_core.specs.log_pair.Pair.{disk_a, disk_b}
+use Rattle.command_decode.specs.fleet_rows.declared.command.Command.{Command}
 use Rattle.command_core.specs.record_spec.declared.queue.QueueRecord.{QueueRecord}
 use Rattle.command_core.specs.core_spec.declared.event.Event.TheVariants.{Apply}
-use Rattle.command_core.specs.core_spec.History.{History, queued, claimed, standing}
+use Rattle.command_core.specs.core_spec.History.{History, command, queued, claimed, standing}
 use Rattle.command_core.specs.core_spec.Legal.{IsAfterFails}
 use Rattle.command_core.specs.core_spec.Pending.{pending_of}
 use Rattle.command_core.specs.core_spec.Stands.{queue_trace}
@@ -56,11 +57,13 @@ pub record LacksDone {D K : Type 0} (w : Sight D K) (old new : CoreState D K) : 
   pub images : (start : History) → Stood w old start → EachImage w.may_leave w.images new (λ q s. StandsAt new.tables.ttls q s (history_of new start))
 
 -- The store's log went down as the change of a claimed command was written. The queue's log is up, and has exactly the records of
--- the events. Each image of the disks stands for the history, or for it and that change.
+-- the events. Each image of the disks stands for the history, or for it and that change, with the moment at which the command was
+-- received.
 pub record ChangeIsOpen {D K : Type 0} (w : Sight D K) (old new : CoreState D K) : Type 0 where
   pub waits : SomethingWaits w old new
   pub receipt : ℕ
-  pub moment : Option ℤ
+  pub of_command : Command
+  pub command_is : (start : History) → Stood w old start → command receipt (history_of new start) ≡ Some of_command
   pub stands : (start : History) → Stood w old start → standing receipt (history_of new start) ≡ claimed
   pub more : History
   pub events : new.events.list ≡ more ++ old.events.list
@@ -69,7 +72,7 @@ pub record ChangeIsOpen {D K : Type 0} (w : Sight D K) (old new : CoreState D K)
       → log.queued w.seen new.queue ≡ Some (records ++ queue_trace more)
   pub images : (start : History) → Stood w old start
       → EachImage w.may_leave w.images new
-      (λ q s. StandsAt new.tables.ttls q s (history_of new start) ⊎ StandsAt new.tables.ttls q s (Apply receipt moment ∷ history_of new start))
+      (λ q s. StandsAt new.tables.ttls q s (history_of new start) ⊎ StandsAt new.tables.ttls q s (Apply receipt (Some of_command.received) ∷ history_of new start))
 
 -- The store's fault count rose by n from some earlier value, and no failure was counted above that value.
 pub record RoseBehindFails {D K : Type 0} (w : Sight D K) (n : ℕ) (old new : CoreState D K) : Type 0 where

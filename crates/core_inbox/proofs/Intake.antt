@@ -17,7 +17,7 @@ use Rattle.core_drain.proofs.Submits.{SubmitSays, submit_events, submit_passes, 
 use Rattle.fleet_rows.specs.declared.submitted.Submitted.{Submitted}
 use Rattle.fleet_rows.specs.declared.submitted.Submitted.TheVariants as answer
 use Rattle.core_inbox.specs.Submits.{SubmitDoes, CoreTakes}
-use Rattle.core_inbox.specs.Intake.{Asked, AreTaken, taken_in, came_in, IsRecordOfOne, one_fault, fault_number, IsDownAmong, QueueRoseBy, CameIn}
+use Rattle.core_inbox.specs.Intake.{Asked, AreTaken, taken_in, came_in, IsRecordOfThis, IsRecordOfOne, one_fault, fault_number, IsDownAmong, QueueRoseBy, CameIn}
 use Rattle.core_inbox.proofs.Counts.{both_none, both_rose, both_on, rose_later, rose_before}
 
 same_events : (s : Submitted) (c : Command) → submit_events s c ≡ taken_in c s
@@ -121,20 +121,26 @@ module _ {D K : Type 0} (w : Sight D K) where
     linked : (s : Submitted) → CoreTakes w c s old new → Link w (λ begun. begun ≡ Submit (old.last + 1) c ∷ []) old new
     linked s step = submit_link w s c old new (says_of c s old new step.1)
 
-    refused : (s : Submitted) → CoreTakes w c s old new → CoreStays old new → Link w (May ((c, s) ∷ asked) old) old new
-    refused s step stays = link_silent (λ begun. begun ≡ Submit (old.last + 1) c ∷ []) (May ((c, s) ∷ asked) old) old new (linked s step) stays.queue stays.store
+    abbrev This : Submitted → History → Type 0
+    This s begun = IsRecordOfThis c s old.last begun
+
+    refused : (s : Submitted) → CoreTakes w c s old new → CoreStays old new → Link w (λ begun. This s begun) old new
+    refused s step stays = link_silent (λ begun. begun ≡ Submit (old.last + 1) c ∷ []) (λ begun. This s begun) old new (linked s step) stays.queue stays.store
 
     -- the record that it may write is that of the command, where the answer lets it
+    this_link : (s : Submitted) → CoreTakes w c s old new → Link w (λ begun. This s begun) old new
+    this_link (answer.Receipt r) step =
+        link_also w (λ begun. begun ≡ Submit (old.last + 1) c ∷ []) (λ begun. This (answer.Receipt r) begun)
+        (λ begun is. (is, inl (ap (λ (n : ℕ). answer.Receipt n) step.1.adds.0))) old new (linked (answer.Receipt r) step)
+    this_link answer.Full step = refused answer.Full step (step.1.stays tt)
+    this_link answer.QueueFault step =
+        link_also w (λ begun. begun ≡ Submit (old.last + 1) c ∷ []) (λ begun. This answer.QueueFault begun) (λ begun is. (is, inr refl)) old new (linked answer.QueueFault step)
+    this_link answer.Spent step = refused answer.Spent step (step.1.stays tt)
+    this_link answer.Down step = refused answer.Down step (step.1.stays tt)
+    this_link answer.Memory step = refused answer.Memory step (step.1.stays tt)
+
     one_link : (s : Submitted) → CoreTakes w c s old new → Link w (May ((c, s) ∷ asked) old) old new
-    one_link (answer.Receipt r) step =
-        link_also w (λ begun. begun ≡ Submit (old.last + 1) c ∷ []) (May ((c, answer.Receipt r) ∷ asked) old)
-        (λ begun is. inl (is, inl (ap (λ (n : ℕ). answer.Receipt n) step.1.adds.0))) old new (linked (answer.Receipt r) step)
-    one_link answer.Full step = refused answer.Full step (step.1.stays tt)
-    one_link answer.QueueFault step =
-        link_also w (λ begun. begun ≡ Submit (old.last + 1) c ∷ []) (May ((c, answer.QueueFault) ∷ asked) old) (λ begun is. inl (is, inr refl)) old new (linked answer.QueueFault step)
-    one_link answer.Spent step = refused answer.Spent step (step.1.stays tt)
-    one_link answer.Down step = refused answer.Down step (step.1.stays tt)
-    one_link answer.Memory step = refused answer.Memory step (step.1.stays tt)
+    one_link s step = link_also w (λ begun. This s begun) (May ((c, s) ∷ asked) old) (λ begun is. inl is) old new (this_link s step)
 
   module _ (c : Command) (s : Submitted) (asked : List Asked) (old between new : CoreState D K) (step : CoreTakes w c s old between) (more : CameIn w asked between new) where
     one_passed : Passed w (taken_in c s) old between
@@ -156,6 +162,7 @@ module _ {D K : Type 0} (w : Sight D K) where
       taken = (between, step, more.taken);
       passed = passed_join w (taken_in c s) (came_in asked) old between new one_passed more.passed;
       course = course_joins w (May ((c, s) ∷ asked)) old between new one_course (course_also w (May asked) (May ((c, s) ∷ asked)) (λ core begun is. inr is) between new more.course);
+      each = (between, (step, this_link c asked old between s step), more.each);
       faults = rose_on (one_fault s) (fault_number asked) old between new more.passed.counts (one_rose c s old between step) more.faults;
       down = one_down;
     }
@@ -165,6 +172,7 @@ module _ {D K : Type 0} (w : Sight D K) where
     taken = refl;
     passed = nothing_passed a;
     course = course_stays w (May []) a;
+    each = refl;
     faults = rose_by_none a a (omega arith) (omega arith);
     down = λ up none. absurd none;
   }

@@ -8,7 +8,7 @@ use Rattle.core_drain.specs.log_pair.Pair.{disk_a, disk_b}
 use Rattle.core_drain.specs.queue_log.Queued.{queue_pair}
 use Rattle.core_drain.specs.core_state.declared.state.CoreState.{CoreState}
 use Rattle.core_drain.specs.core_course.Sight.{Sight, is_down}
-use Rattle.core_drain.specs.core_course.Courses.{Course, Passed}
+use Rattle.core_drain.specs.core_course.Courses.{Course, Link, Passed}
 use Rattle.core_drain.specs.Ends.{QueueRose}
 use Rattle.link_serving.specs.http_routes.Course.{Outside}
 use Rattle.link_serving.specs.means_spec.OutRows.{OutRows}
@@ -46,11 +46,14 @@ abbrev pub came_in : List Asked → History
 came_in [] = []
 came_in ((c, s) ∷ asked) = came_in asked ++ taken_in c s
 
--- The record of one command, under the receipt after the last one. The command got this receipt, or the queue failed at it.
+-- The record of this command, under the receipt after the last one. The command got this receipt, or the queue failed at it.
+abbrev pub IsRecordOfThis : Command → Submitted → ℕ → History → Type 0
+IsRecordOfThis c s last begun = (begun ≡ Submit (last + 1) c ∷ []) × ((s ≡ answer.Receipt (last + 1)) ⊎ (s ≡ answer.QueueFault))
+
+-- the record of one of these commands
 abbrev pub IsRecordOfOne : List Asked → ℕ → History → Type 0
 IsRecordOfOne [] last begun = ⊥
-IsRecordOfOne ((c, s) ∷ asked) last begun =
-    ((begun ≡ Submit (last + 1) c ∷ []) × ((s ≡ answer.Receipt (last + 1)) ⊎ (s ≡ answer.QueueFault))) ⊎ IsRecordOfOne asked last begun
+IsRecordOfOne ((c, s) ∷ asked) last begun = IsRecordOfThis c s last begun ⊎ IsRecordOfOne asked last begun
 
 abbrev pub one_fault : Submitted → ℕ
 one_fault answer.QueueFault = 1
@@ -81,6 +84,8 @@ pub record CameIn {D K : Type 0} (w : Sight D K) (asked : List Asked) (old new :
   pub taken : AreTaken (CoreTakes w) asked old new
   pub passed : Passed w (came_in asked) old new
   pub course : Course w (λ core begun. IsRecordOfOne asked core.last begun) old new
+  -- command for command: within a call each image may include the record of its own command alone
+  pub each : AreTaken (λ c s before after. CoreTakes w c s before after × Link w (λ begun. IsRecordOfThis c s before.last begun) before after) asked old new
   pub faults : QueueRoseBy (fault_number asked) w old new
   pub down : is_down w old ≡ false → IsDownAmong asked → QueueRose w old new
 

@@ -9,7 +9,8 @@
 //!
 //! What the contract promises (`ServesCore`, `CameIn`):
 //! - Only commands with a receipt are added, in order (`passed`). Within, images stand for the history and a prefix of them,
-//!   and perhaps for one being written, which gets a receipt or `queue fault` (`course`).
+//!   and perhaps for one being written, which gets a receipt or `queue fault` (`course`). Within one submit, this is the
+//!   submitted command (`each`).
 //! - The queue's counts rose together by at least one per `queue fault` (`faults`). A core that was up answers `queue down`
 //!   only if one of them rose (`down`).
 //! - The refusal count rose by at least one for each request with a refused pattern (`refused`). No connection changes the
