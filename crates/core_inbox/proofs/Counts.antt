@@ -1,8 +1,8 @@
 -- The counts of two disks: as one, which stands still at its last value, and together, while neither stands at its own.
 use Rattle.std.proofs.Common.{◌≡◌, ◌⊎◌, inl, inr, ℕ, ◌+◌, ◌-◌, ◌^◌, ◌<◌, ◌≤◌, min, arith}
 use Rattle.std.proofs.lemmas.Bool.{cases_lt}
-use Rattle.core_drain.specs.fleet_ports.Counts.{Rose}
-use Rattle.core_drain.specs.log_pair.Open.{PairCounts}
+use Rattle.core_ends.specs.fleet_ports.Counts.{Rose}
+use Rattle.core_ends.specs.log_pair.Open.{PairCounts}
 
 both_later : (m a b c d : ℕ) → a ≤ c → b ≤ d → min (a + b) m ≤ min (c + d) m
 both_later m a b c d first second = first_of (omega arith, grind arith)

@@ -1,7 +1,7 @@
 -- What was handed in on links that were served.
 use Rattle.std.proofs.Common.{ℤ, ℕ, List, [], ◌∷◌, ◌++◌, Option, Some, None, ap, subst}
 use Rattle.std.specs.Option.{option_to_list}
-use Rattle.core_drain.specs.fleet_rows.declared.command.Command.{Command}
+use Rattle.core_ends.specs.fleet_rows.declared.command.Command.{Command}
 use Rattle.link_serving.specs.http_routes.Course.{Outside, AllMove}
 use Rattle.link_serving.specs.http_routes.Moves.{Submits}
 use Rattle.link_serving.specs.means_spec.OutRows.{OutRows}

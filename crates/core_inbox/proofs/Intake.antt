@@ -1,19 +1,19 @@
 -- What commands that are handed in make of a core, one after the other.
 use Rattle.std.proofs.Common.{◌≡◌, ◌∙◌, inl, inr, ℕ, ◌+◌, ◌-◌, ◌^◌, ◌≤◌, true, false, Bool, List, [], ◌∷◌, Some, append-nil, arith, refl, sym, ap, subst}
-use Rattle.core_drain.specs.fleet_rows.declared.command.Command.{Command}
-use Rattle.core_drain.specs.log_pair.Pair.{disk_a, disk_b}
-use Rattle.core_drain.specs.queue_log.Queued.{queue_pair}
-use Rattle.core_drain.specs.record_spec.declared.queue.QueueRecord.{QueueRecord}
-use Rattle.core_drain.specs.record_spec.declared.store.StoreRecord.{StoreRecord}
-use Rattle.core_drain.specs.core_spec.declared.event.Event.TheVariants.{Submit}
-use Rattle.core_drain.specs.core_spec.History.{History}
-use Rattle.core_drain.specs.core_state.declared.state.CoreState.{CoreState}
-use Rattle.core_drain.specs.core_state.Changes.{CoreStays}
-use Rattle.core_drain.specs.core_course.Sight.{Sight, is_down}
-use Rattle.core_drain.specs.core_course.Courses.{silent, Link, Course, CountsRise, Passed}
-use Rattle.core_drain.specs.Ends.{QueueRose}
-use Rattle.core_drain.proofs.of_core_course.Stretches.{passed_join, course_joins, course_of_one, course_stays, course_also, link_also}
-use Rattle.core_drain.proofs.Submits.{SubmitSays, submit_events, submit_passes, submit_link}
+use Rattle.core_ends.specs.fleet_rows.declared.command.Command.{Command}
+use Rattle.core_ends.specs.log_pair.Pair.{disk_a, disk_b}
+use Rattle.core_ends.specs.queue_log.Queued.{queue_pair}
+use Rattle.core_ends.specs.record_spec.declared.queue.QueueRecord.{QueueRecord}
+use Rattle.core_ends.specs.record_spec.declared.store.StoreRecord.{StoreRecord}
+use Rattle.core_ends.specs.core_spec.declared.event.Event.TheVariants.{Submit}
+use Rattle.core_ends.specs.core_spec.History.{History}
+use Rattle.core_ends.specs.core_state.declared.state.CoreState.{CoreState}
+use Rattle.core_ends.specs.core_state.Changes.{CoreStays}
+use Rattle.core_ends.specs.core_course.Sight.{Sight, is_down}
+use Rattle.core_ends.specs.core_course.Courses.{silent, Link, Course, CountsRise, Passed}
+use Rattle.core_ends.specs.Ends.{QueueRose}
+use Rattle.core_ends.proofs.of_core_course.Stretches.{passed_join, course_joins, course_of_one, course_stays, course_also, link_also}
+use Rattle.core_ends.proofs.Submits.{SubmitSays, submit_events, submit_passes, submit_link}
 use Rattle.fleet_rows.specs.declared.submitted.Submitted.{Submitted}
 use Rattle.fleet_rows.specs.declared.submitted.Submitted.TheVariants as answer
 use Rattle.core_inbox.specs.Submits.{SubmitDoes, CoreTakes}

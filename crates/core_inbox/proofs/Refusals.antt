@@ -1,7 +1,7 @@
 -- A request with a pattern that was refused raised the count of refusals.
 use Rattle.std.proofs.Common.{◌≡◌, ℕ, ◌+◌, ◌-◌, ◌^◌, ◌≤◌, min, ℤ, Bool, true, false, List, [], ◌∷◌, Option, arith, refl, ap}
-use Rattle.core_drain.specs.fleet_ports.Counts.{RoseBy}
-use Rattle.core_drain.specs.fleet_rows.declared.command.Command.{Command}
+use Rattle.core_ends.specs.fleet_ports.Counts.{RoseBy}
+use Rattle.core_ends.specs.fleet_rows.declared.command.Command.{Command}
 use Rattle.link_serving.specs.http_routes.Course.{Outside, AllMove}
 use Rattle.link_serving.specs.http_routes.Moves.{Reads}
 use Rattle.link_serving.specs.means_spec.OutRows.{OutRows}

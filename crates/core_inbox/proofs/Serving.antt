@@ -1,7 +1,7 @@
 -- What serving a front over an inbox makes of the core that it holds.
 use Rattle.std.proofs.Common.{◌≡◌, ℕ, ℤ, List, Bool, Option, sym, subst}
-use Rattle.core_drain.specs.core_state.declared.state.CoreState.{CoreState}
-use Rattle.core_drain.specs.core_course.Sight.{Sight}
+use Rattle.core_ends.specs.core_state.declared.state.CoreState.{CoreState}
+use Rattle.core_ends.specs.core_course.Sight.{Sight}
 use Rattle.link_serving.specs.history_spec.Trace.{Trace}
 use Rattle.link_serving.specs.fleet_tables.Stands.{Stands}
 use Rattle.link_serving.specs.http_routes.Course.{Outside, outside}

@@ -1,18 +1,18 @@
 -- A submit of a core is one of an inbox.
 use Rattle.std.proofs.Common.{◌≡◌, ◌∙◌, inl, inr, ℕ, ◌+◌, ◌≤◌, ◌||◌, Bool, true, false, List, [], ◌∷◌, ◌++◌, length, arith, refl, sym, ap, subst}
 use Rattle.std.proofs.lemmas.List.{length-append}
-use Rattle.core_drain.specs.fleet_rows.declared.command.Command.{Command}
-use Rattle.core_drain.specs.record_spec.declared.queue.QueueRecord.TheVariants as queue
-use Rattle.core_drain.specs.record_spec.Queue.{queue_text}
-use Rattle.core_drain.specs.log_pair.Pair.{disk_a, disk_b}
-use Rattle.core_drain.specs.core_spec.declared.entry.Entry.{Entry}
-use Rattle.core_drain.specs.core_machine.Steps.{new_entry}
-use Rattle.core_drain.specs.supersede_core.Waiting.{payload_bytes}
-use Rattle.core_drain.specs.queue_log.Queued.{queue_pair, queue_down, queue_size}
-use Rattle.core_drain.specs.core_state.declared.state.CoreState.{CoreState}
-use Rattle.core_drain.specs.core_state.Changes.{CoreStays}
+use Rattle.core_ends.specs.fleet_rows.declared.command.Command.{Command}
+use Rattle.core_ends.specs.record_spec.declared.queue.QueueRecord.TheVariants as queue
+use Rattle.core_ends.specs.record_spec.Queue.{queue_text}
+use Rattle.core_ends.specs.log_pair.Pair.{disk_a, disk_b}
+use Rattle.core_ends.specs.core_spec.declared.entry.Entry.{Entry}
+use Rattle.core_ends.specs.core_machine.Steps.{new_entry}
+use Rattle.core_ends.specs.supersede_core.Waiting.{payload_bytes}
+use Rattle.core_ends.specs.queue_log.Queued.{queue_pair, queue_down, queue_size}
+use Rattle.core_ends.specs.core_state.declared.state.CoreState.{CoreState}
+use Rattle.core_ends.specs.core_state.Changes.{CoreStays}
 use Rattle.fleet_rows.specs.declared.submitted.Submitted.TheVariants as came
-use Rattle.core_drain.specs.core_course.Sight.{Sight, is_down}
+use Rattle.core_ends.specs.core_course.Sight.{Sight, is_down}
 use Rattle.link_serving.specs.http_routes.Inbox.{HasRoom, TakesIn, Faults, IsSpent, IsSubmit}
 use Rattle.fleet_rows.specs.declared.submitted.Submitted.{Submitted}
 use Rattle.core_inbox.specs.Submits.{taken_of, queue_faults, held_by, SubmitDoes, CoreTakes}

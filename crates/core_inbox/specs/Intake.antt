@@ -1,15 +1,15 @@
 -- What the commands of all served connections do to a core.
 use Rattle.std.specs.Prelude.{◌≡◌, ◌⊎◌, ℕ, ◌+◌, ◌-◌, ◌^◌, ◌≤◌, ℤ, false, List, [], ◌∷◌, ◌++◌, Option}
-use Rattle.core_drain.specs.fleet_ports.Counts.{RoseBy}
-use Rattle.core_drain.specs.fleet_rows.declared.command.Command.{Command}
-use Rattle.core_drain.specs.core_spec.declared.event.Event.TheVariants.{Submit}
-use Rattle.core_drain.specs.core_spec.History.{History}
-use Rattle.core_drain.specs.log_pair.Pair.{disk_a, disk_b}
-use Rattle.core_drain.specs.queue_log.Queued.{queue_pair}
-use Rattle.core_drain.specs.core_state.declared.state.CoreState.{CoreState}
-use Rattle.core_drain.specs.core_course.Sight.{Sight, is_down}
-use Rattle.core_drain.specs.core_course.Courses.{Course, Link, Passed}
-use Rattle.core_drain.specs.Ends.{QueueRose}
+use Rattle.core_ends.specs.fleet_ports.Counts.{RoseBy}
+use Rattle.core_ends.specs.fleet_rows.declared.command.Command.{Command}
+use Rattle.core_ends.specs.core_spec.declared.event.Event.TheVariants.{Submit}
+use Rattle.core_ends.specs.core_spec.History.{History}
+use Rattle.core_ends.specs.log_pair.Pair.{disk_a, disk_b}
+use Rattle.core_ends.specs.queue_log.Queued.{queue_pair}
+use Rattle.core_ends.specs.core_state.declared.state.CoreState.{CoreState}
+use Rattle.core_ends.specs.core_course.Sight.{Sight, is_down}
+use Rattle.core_ends.specs.core_course.Courses.{Course, Link, Passed}
+use Rattle.core_ends.specs.Ends.{QueueRose}
 use Rattle.link_serving.specs.http_routes.Course.{Outside}
 use Rattle.link_serving.specs.means_spec.OutRows.{OutRows}
 use Rattle.link_serving.specs.means_spec.World.{World}

@@ -1,7 +1,7 @@
 -- The number of requests with a refused pattern.
 use Rattle.std.specs.Prelude.{ℕ, ◌+◌, ℤ, List, [], ◌∷◌, Bool, true, false, Option}
 use Rattle.std.specs.List.{list_any}
-use Rattle.core_drain.specs.fleet_rows.declared.command.Command.{Command}
+use Rattle.core_ends.specs.fleet_rows.declared.command.Command.{Command}
 use Rattle.link_serving.specs.http_routes.Course.{Outside}
 use Rattle.link_serving.specs.means_spec.OutRows.{OutRows}
 use Rattle.link_serving.specs.means_spec.World.{World}

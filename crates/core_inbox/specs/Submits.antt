@@ -1,21 +1,21 @@
 -- What a posted command does to a core, and what an inbox over the core holds.
 use Rattle.std.specs.Prelude.{◌≡◌, ◌⊎◌, ◌↔◌, ℕ, ◌+◌, ◌-◌, ◌^◌, min, true, false, List, [], ◌∷◌, ◌++◌, length}
-use Rattle.core_drain.specs.fleet_rows.declared.command.Command.{Command}
-use Rattle.core_drain.specs.core_spec.declared.event.Event.TheVariants.{Submit}
-use Rattle.core_drain.specs.core_spec.History.{History}
-use Rattle.core_drain.specs.log_pair.Pair.{disk_a, disk_b}
-use Rattle.core_drain.specs.supersede_core.Waiting.{payload_bytes}
-use Rattle.core_drain.specs.queue_log.Queued.{queue_pair, queue_down, queue_size}
-use Rattle.core_drain.specs.queue_log.declared.queue.QueueLog.{QueueLog}
-use Rattle.core_drain.specs.core_state.declared.state.CoreState.{CoreState}
-use Rattle.core_drain.specs.core_state.Changes.{OthersStay, MemoryStays, CoreStays}
-use Rattle.core_drain.specs.core_state.Moments.{Within, StandsAmid}
-use Rattle.core_drain.specs.core_state.Puts.{QueueCounts, QueueRoseTwice}
-use Rattle.core_drain.specs.core_state.Seen.{IsSubmitted}
-use Rattle.core_drain.specs.core_state.StandsFor.{history_of}
-use Rattle.core_drain.specs.core_submits.Submits as core
-use Rattle.core_drain.specs.core_submits.Submits.{IsFull, IsSubmitOf, SubmitAdds, SubmitWrites, SubmitWaits, IsRefusal}
-use Rattle.core_drain.specs.core_course.Sight.{Sight, Stood, is_down}
+use Rattle.core_ends.specs.fleet_rows.declared.command.Command.{Command}
+use Rattle.core_ends.specs.core_spec.declared.event.Event.TheVariants.{Submit}
+use Rattle.core_ends.specs.core_spec.History.{History}
+use Rattle.core_ends.specs.log_pair.Pair.{disk_a, disk_b}
+use Rattle.core_ends.specs.supersede_core.Waiting.{payload_bytes}
+use Rattle.core_ends.specs.queue_log.Queued.{queue_pair, queue_down, queue_size}
+use Rattle.core_ends.specs.queue_log.declared.queue.QueueLog.{QueueLog}
+use Rattle.core_ends.specs.core_state.declared.state.CoreState.{CoreState}
+use Rattle.core_ends.specs.core_state.Changes.{OthersStay, MemoryStays, CoreStays}
+use Rattle.core_ends.specs.core_state.Moments.{Within, StandsAmid}
+use Rattle.core_ends.specs.core_state.Puts.{QueueCounts, QueueRoseTwice}
+use Rattle.core_ends.specs.core_state.Seen.{IsSubmitted}
+use Rattle.core_ends.specs.core_state.StandsFor.{history_of}
+use Rattle.core_ends.specs.core_submits.Submits as core
+use Rattle.core_ends.specs.core_submits.Submits.{IsFull, IsSubmitOf, SubmitAdds, SubmitWrites, SubmitWaits, IsRefusal}
+use Rattle.core_ends.specs.core_course.Sight.{Sight, Stood, is_down}
 use Rattle.link_serving.specs.http_routes.Inbox.{Held, Takes}
 use Rattle.fleet_rows.specs.declared.submitted.Submitted.{Submitted}
 use Rattle.fleet_rows.specs.declared.submitted.Submitted.TheVariants as came

@@ -1,7 +1,7 @@
 //! Makes a core an inbox for posted commands.
 ghost use Rattle.std.specs.Prelude.{◌≡◌};
 
-use core_drain::{Core, Keeper};
+use core_ends::{Core, Keeper};
 use fleet_ports::Disk;
 use fleet_rows::{Command, Submitted};
 use fleet_tables::Tables;
@@ -17,9 +17,9 @@ pub(crate) struct CoreInbox<D: Disk + Drop, K: Keeper + Drop> {
 impl<D: Disk + Drop, K: Keeper + Drop> Model for CoreInbox<D, K> {
     ghost use Rattle.std.specs.Coded.{codes};
     ghost use Rattle.std.proofs.Props.{props};
-    ghost use Rattle.core_drain.specs.text_spec.JsonCode.{coded_json};
-    ghost use Rattle.core_drain.specs.fleet_tables.Seen.{coded_table};
-    ghost use Rattle.core_drain.specs.core_state.declared.state.CoreState.{CoreState};
+    ghost use Rattle.core_ends.specs.text_spec.JsonCode.{coded_json};
+    ghost use Rattle.core_ends.specs.fleet_tables.Seen.{coded_table};
+    ghost use Rattle.core_ends.specs.core_state.declared.state.CoreState.{CoreState};
 
     ghost Value = { CoreState D K };
 
@@ -44,7 +44,7 @@ impl<D: Disk + Drop, K: Keeper + Drop> CoreInbox<D, K> {
 }
 
 impl<D: Disk + Drop, K: Keeper + Drop> Inbox for CoreInbox<D, K> {
-    ghost use Rattle.core_drain.specs.core_course.Sight.{sight_of};
+    ghost use Rattle.core_ends.specs.core_course.Sight.{sight_of};
     ghost use Rattle.core_inbox.specs.Submits.{held_by, Does};
 
     ghost shown = { λ core. core.tables };

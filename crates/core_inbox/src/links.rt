@@ -1,9 +1,9 @@
 //! Serves connections over a core.
 ghost use Rattle.std.specs.Prelude.{◌≡◌, ℕ, List};
-ghost use Rattle.core_drain.specs.fleet_ports.Counts.{Counts};
-ghost use Rattle.core_drain.specs.fleet_tables.Stands.{Stands};
-ghost use Rattle.core_drain.specs.history_spec.Lawful.{HasStamp};
-ghost use Rattle.core_drain.specs.core_course.Sight.{sight_of};
+ghost use Rattle.core_ends.specs.fleet_ports.Counts.{Counts};
+ghost use Rattle.core_ends.specs.fleet_tables.Stands.{Stands};
+ghost use Rattle.core_ends.specs.history_spec.Lawful.{HasStamp};
+ghost use Rattle.core_ends.specs.core_course.Sight.{sight_of};
 ghost use Rattle.link_serving.specs.history_spec.Trace.{Trace};
 ghost use Rattle.link_serving.specs.means_spec.OutRows.{lines_text};
 ghost use Rattle.link_serving.specs.means_spec.World as spec;
@@ -14,7 +14,7 @@ ghost use Rattle.link_serving.specs.Serving.{front_seen};
 ghost use Rattle.core_inbox.specs.Intake.{ServesCore};
 
 use crate::inbox::CoreInbox;
-use core_drain::{Core, Keeper};
+use core_ends::{Core, Keeper};
 use fleet_ports::Disk;
 use front_port::Front;
 use link_serving::{ServeEnd, serve_front};

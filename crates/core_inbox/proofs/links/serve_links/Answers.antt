@@ -1,4 +1,4 @@
-use Rattle.core_drain.specs.core_course.Sight.{Sight, sight}
+use Rattle.core_ends.specs.core_course.Sight.{Sight, sight}
 use Rattle.link_serving.specs.Serving.{front_seen}
 use Rattle.core_inbox.proofs.Serving.{served_core, stood_core}
 use Rattle.core_inbox.proofs.links.serve_links.Goals as goal

@@ -1,6 +1,6 @@
 use Rattle.std.proofs.Common.{◌≡◌, subst}
-use Rattle.core_drain.specs.core_state.declared.state.CoreState.{CoreState}
-use Rattle.core_drain.specs.core_course.Sight.{Sight, sight}
+use Rattle.core_ends.specs.core_state.declared.state.CoreState.{CoreState}
+use Rattle.core_ends.specs.core_course.Sight.{Sight, sight}
 use Rattle.core_inbox.specs.Submits.{SubmitDoes}
 use Rattle.core_inbox.proofs.Submits.{submit_takes}
 use Rattle.core_inbox.proofs.inbox.CoreInboxInbox.submit.Goals as goal
