@@ -76,6 +76,7 @@ impl<D: Disk + Drop, K: Keeper + Drop, P: Purpose> Held for Followed<D, K, P> {
 }
 
 impl<D: Disk + Drop, K: Keeper + Drop, P: Purpose> Followed<D, K, P> {
+    /// A core as it comes under the lock.
     pub fn new(core: Core<D, K>) -> Followed<D, K, P>
         ensures core { result.core ≡ core }
         ensures start { result.start ≡ core }
@@ -88,6 +89,7 @@ impl<D: Disk + Drop, K: Keeper + Drop, P: Purpose> Followed<D, K, P> {
         }
     }
 
+    /// The core, with what its calls led to.
     pub fn into_core(self) -> Core<D, K>
         ensures core { result ≡ self.core }
         ensures follows { Follows (sight_of D.Disk K.Keeper) P.only_work self.start result }
@@ -100,6 +102,14 @@ impl<D: Disk + Drop, K: Keeper + Drop, P: Purpose> Followed<D, K, P> {
         core
     }
 
+    /// The core.
+    pub fn core(&self) -> &Core<D, K>
+        ensures core { result.now ≡ self.now.core }
+    {
+        &self.core
+    }
+
+    /// Claims a command. Stale candidates are superseded first.
     pub fn claim(&mut self) -> Claimed
         ensures does { ClaimDoes (sight_of D.Disk K.Keeper) result self.old.core self.new.core }
         ensures start { self.new.start ≡ self.old.start }
@@ -110,6 +120,7 @@ impl<D: Disk + Drop, K: Keeper + Drop, P: Purpose> Followed<D, K, P> {
         self.core.claim()
     }
 
+    /// Queues a claimed command again.
     pub fn release(&mut self, job: Job)
         ensures does { ReleaseDoes (sight_of D.Disk K.Keeper) job self.old.core self.new.core }
         ensures start { self.new.start ≡ self.old.start }
@@ -119,6 +130,7 @@ impl<D: Disk + Drop, K: Keeper + Drop, P: Purpose> Followed<D, K, P> {
         self.core.release(job);
     }
 
+    /// Ends a claimed command by the worker's verdict.
     pub fn settle(&mut self, job: Job, verdict: Verdict) -> Settled
         requires submitted { WasSubmitted job.receipt job.command (list_of self.old) }
         requires fit { IsFit job.command }
@@ -131,6 +143,7 @@ impl<D: Disk + Drop, K: Keeper + Drop, P: Purpose> Followed<D, K, P> {
         self.core.settle(job, verdict)
     }
 
+    /// Submits a command.
     pub fn submit(&mut self, command: Command) -> Submitted
         requires all { P.only_work ≡ false }
         requires payload { length command.payload ≤ most_payload }
@@ -143,6 +156,7 @@ impl<D: Disk + Drop, K: Keeper + Drop, P: Purpose> Followed<D, K, P> {
         self.core.submit(command)
     }
 
+    /// Sweeps the tables at a moment.
     pub fn sweep(&mut self, kinds: Kinds, m: Moment) -> Swept
         requires all { P.only_work ≡ false }
         requires stamp { HasStamp m }
