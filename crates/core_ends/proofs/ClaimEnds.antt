@@ -11,12 +11,12 @@ use Rattle.command_core.specs.core_claims.Claims.{ClaimGives, LeavesPending, IsO
 use Rattle.core_course.specs.Sight.{Sight, Stood, is_down}
 use Rattle.core_course.specs.Work.{Worked}
 use Rattle.core_ends.proofs.Links.{core_up}
-use Rattle.core_ends.proofs.OneCalls.{claimed_at_once}
+use Rattle.core_ends.proofs.OneCalls.{only_supersedes}
 use Rattle.core_ends.proofs.Releases.{nothing_works}
 use Rattle.core_ends.proofs.Claims.{ClaimSays, claim_events, claim_passes}
 use Rattle.core_ends.proofs.Waits.{queued_waits}
 use Rattle.core_ends.specs.Answers.{after_claim}
-use Rattle.core_ends.specs.Ends.{SomethingWaits, RoseInLast, to_supersede, EndsHere}
+use Rattle.core_ends.specs.Ends.{SomethingWaits, of_claim, RoseInLast, to_supersede, EndsHere}
 
 module _ {D K : Type 0} (w : Sight D K) where
   -- further clauses of a claim: when each answer comes
@@ -44,8 +44,9 @@ module _ {D K : Type 0} (w : Sight D K) where
           earlier = nothing.more;
           mid = old;
           before = nothing.passed;
+          up = up;
           last = claim_events w claimed.QueueFault old new says;
-          of_one = claimed_at_once claimed.QueueFault says.adds.more says.adds.only;
+          of_fault = of_claim (only_supersedes says.adds.more says.adds.only);
           passed = claim_passes w claimed.QueueFault old new says;
           rose = says.cause.cause refl;
         }

@@ -41,8 +41,9 @@ module _ {D K : Type 0} (w : Sight D K) where
       earlier = h.earlier ++ more;
       mid = h.mid;
       before = passed_join w more h.earlier a b h.mid p h.before;
+      up = h.up;
       last = h.last;
-      of_one = h.of_one;
+      of_fault = h.of_fault;
       passed = h.passed;
       rose = h.rose;
     }

@@ -14,7 +14,7 @@ use Rattle.command_core.specs.core_settles.declared.answers.Settled.TheVariants 
 use Rattle.command_core.specs.core_settles.declared.answers.Verdict.{Verdict}
 use Rattle.command_core.specs.core_settles.declared.answers.Verdict.TheVariants as verdict
 
-only_supersedes : (more : History) → OnlySupersede more → OnlySupersedes more
+pub only_supersedes : (more : History) → OnlySupersede more → OnlySupersedes more
 only_supersedes [] h = tt
 only_supersedes (Submit r c ∷ more) h = absurd h
 only_supersedes (Claim r ∷ more) h = absurd h

@@ -27,16 +27,16 @@ use Rattle.command_core.specs.core_settles.declared.answers.Verdict.TheVariants 
 use Rattle.command_core.specs.core_settles.Settles.{IsVerdictOf, IsSpent, LeavesPending, SettleImage, StoreRose, settled_events}
 use Rattle.command_core.proofs.of_core_state.Tests.{claimed_stands}
 use Rattle.core_course.specs.Sight.{Sight, Stood, is_down}
+use Rattle.core_course.specs.Courses.{Passed}
 use Rattle.core_course.specs.Work.{Worked}
 use Rattle.core_ends.proofs.Links.{core_up}
 use Rattle.core_ends.proofs.Fails.{rose_behind}
 use Rattle.core_ends.proofs.Records.{none_more}
-use Rattle.core_ends.proofs.OneCalls.{settled_at_once}
 use Rattle.core_ends.proofs.Releases.{nothing_works}
 use Rattle.core_ends.proofs.Settles.{SettleSays, settle_command, settle_passes}
 use Rattle.core_ends.proofs.Waits.{released_waits}
 use Rattle.core_ends.specs.Answers.{after_settle}
-use Rattle.core_ends.specs.Ends.{SomethingWaits, RoseInLast, IsLeft, to_settle, LacksDone, ChangeIsOpen, EndsHere}
+use Rattle.core_ends.specs.Ends.{SomethingWaits, of_settle, RoseInLast, IsLeft, to_settle, LacksDone, ChangeIsOpen, EndsHere}
 use Rattle.command_core.specs.log_spec.Limits.{most_log}
 use Rattle.command_core.proofs.of_core_settles.SettledParts.{claimed_some}
 
@@ -115,16 +115,19 @@ module _ {D K : Type 0} (w : Sight D K) where
     fault_added says undone down is how =
         says.adds ∙ (ap (λ (b : Bool). fault_events b (is_down w new) ++ old.events.list) is ∙ ap (λ (b : Bool). fault_events undone b ++ old.events.list) how)
 
-    fault_last : SettleSays w settled.QueueFault job v old new → RoseInLast w old new
-    fault_last says =
+    -- the core stayed up, so the command was queued again
+    fault_last : SettleSays w settled.QueueFault job v old new → new.undone ≡ false → is_down w new ≡ false → RoseInLast w old new
+    fault_last says is still =
         let nothing : Worked w old old = nothing_works w old old refl in
+        let added : fault_events new.undone (is_down w new) ≡ Release job.receipt ∷ [] = ap (λ (b : Bool). fault_events b (is_down w new)) is ∙ ap (λ (b : Bool). fault_events false b) still in
         record {
           earlier = nothing.more;
           mid = old;
           before = nothing.passed;
-          last = fault_events new.undone (is_down w new);
-          of_one = settled_at_once settled.QueueFault job v (w.store_faults old.store) (w.store_faults new.store) new.undone (is_down w new);
-          passed = settle_passes w settled.QueueFault job v old new submitted decodes says;
+          up = up;
+          last = Release job.receipt ∷ [];
+          of_fault = of_settle job.receipt refl;
+          passed = subst (λ (es : History). Passed w es old new) added (settle_passes w settled.QueueFault job v old new submitted decodes says);
           rose = says.cause.cause refl;
         }
 
@@ -143,8 +146,8 @@ module _ {D K : Type 0} (w : Sight D K) where
           subst (λ (b : Bool). SettleImage settled.QueueFault b job new.tables.ttls (history_of new start) q s) is (a.each_image start stood q s q_image s_image);
     })
     fault_left says a false true is how =
-        inr (is, claim_left job.receipt old new (a.waits is) (fault_added says false true is how) (is_claimed_by settled.QueueFault (λ e. cc) a (is_claimed job.receipt old.pending) refl), λ still. fault_last says)
-    fault_left says a false false is how = inr (is, release_left job.receipt old new (a.waits is) says.stands (fault_added says false false is how), λ still. fault_last says)
+        inr (is, claim_left job.receipt old new (a.waits is) (fault_added says false true is how) (is_claimed_by settled.QueueFault (λ e. cc) a (is_claimed job.receipt old.pending) refl), λ still. fault_last says is still)
+    fault_left says a false false is how = inr (is, release_left job.receipt old new (a.waits is) says.stands (fault_added says false false is how), λ still. fault_last says is still)
 
     -- the command stays claimed, and its change may be in the store
     change_open : SettleSays w settled.StoreDown job v old new → SettleAnswers settled.StoreDown job v old new → is_claimed job.receipt old.pending ≡ true → ChangeIsOpen w old new

@@ -4,7 +4,7 @@ use Rattle.core_course.specs.fleet_ports.Counts.{RoseBy}
 use Rattle.command_core.specs.log_pair.Pair.{disk_a, disk_b}
 use Rattle.command_decode.specs.fleet_rows.declared.command.Command.{Command}
 use Rattle.command_core.specs.record_spec.declared.queue.QueueRecord.{QueueRecord}
-use Rattle.command_core.specs.core_spec.declared.event.Event.TheVariants.{Apply}
+use Rattle.command_core.specs.core_spec.declared.event.Event.TheVariants.{Apply, Release}
 use Rattle.command_core.specs.core_spec.History.{History, command, queued, claimed, standing}
 use Rattle.command_core.specs.core_spec.Legal.{IsAfterFails}
 use Rattle.command_core.specs.core_spec.Pending.{pending_of}
@@ -21,7 +21,7 @@ use Rattle.command_core.specs.core_settles.declared.answers.Verdict.{Verdict}
 use Rattle.command_core.specs.core_settles.Settles as settles
 use Rattle.command_core.specs.core_settles.Settles.{IsVerdictOf}
 use Rattle.core_course.specs.Sight.{Sight, Stood, is_down}
-use Rattle.core_course.specs.Courses.{AreOfOneCall, Passed}
+use Rattle.core_course.specs.Courses.{OnlySupersedes, Passed}
 use Rattle.core_ends.specs.declared.ends.WorkEnd.{WorkEnd}
 use Rattle.core_ends.specs.declared.ends.WorkEnd.TheVariants.{Done, QueueFault, StoreDown, Spent, Down, Memory}
 
@@ -81,19 +81,26 @@ pub record RoseBehindFails {D K : Type 0} (w : Sight D K) (n : ℕ) (old new : C
   pub rose : RoseBy n counted (w.store_faults new.store)
   pub fails : (start : History) → Stood w old start → IsAfterFails counted (history_of new start)
 
--- The fault count of one of the queue's disks rose between an earlier core and this one, and the events between them are at most
--- those of one call.
+-- What a call adds at which the queue failed and the core stayed up: a claim that superseded commands before, or a settle that
+-- queued its command again.
+pub data AreOfFault (events : History) : Type 0 where
+  of_claim : OnlySupersedes events → AreOfFault events
+  of_settle : (r : ℕ) → events ≡ Release r ∷ [] → AreOfFault events
+
+-- From an earlier core that was up to this one, the fault count of one of the queue's disks rose, and only such events were added.
+-- So no command came in, was handed out, was applied or was discarded meanwhile.
 pub record RoseInLast {D K : Type 0} (w : Sight D K) (old new : CoreState D K) : Type 0 where
   pub earlier : History
   pub mid : CoreState D K
   pub before : Passed w earlier old mid
+  pub up : is_down w mid ≡ false
   pub last : History
-  pub of_one : AreOfOneCall last
+  pub of_fault : AreOfFault last
   pub passed : Passed w last mid new
   pub rose : QueueRose w mid new
 
--- Something is pending, and no Done is lacking. So only a log can be down. If none is, the queue counted a fault while at most the
--- events of one last call came.
+-- Something is pending, and no Done is lacking. So only a log can be down. If none is, the last call was one at which the queue
+-- counted a fault.
 abbrev pub IsLeft : {D K : Type 0} → Sight D K → CoreState D K → CoreState D K → Type 0
 IsLeft w old new = (new.undone ≡ false) × SomethingWaits w old new × (is_down w new ≡ false → RoseInLast w old new)
 

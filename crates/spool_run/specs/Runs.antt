@@ -183,7 +183,7 @@ CommandComes w now spool more items old new =
 abbrev pub CommandIsSpent : {D : Type 0} → ℤ → Option (List ℕ) → History → List Item → LogCore D → LogCore D → Type 0
 CommandIsSpent now spool more items old new = NothingIsDue more new.pending × SubmitIsSpent now spool new items
 
--- A command is pending. If the core is up, the queue counted a fault while at most the events of one last call came.
+-- A command is pending. If the core is up, the last call was one at which the queue counted a fault.
 abbrev pub CommandWaits : {D : Type 0} → DiskSight D → History → List Item → LogCore D → LogCore D → Type 0
 CommandWaits w more items old new =
     SomethingWaits (log_sight w) old new × (is_down (log_sight w) new ≡ false → RoseInLast (log_sight w) old new) × OnlyQueueIsDown new
