@@ -2,7 +2,7 @@
 //!
 //! The tables keep their nodes by certname in groups. A new node, or one whose number of rows changes, moves and recounts only
 //! the nodes of its group. Each node stores the numbers of rows before it in the group, so a binary search finds a row.
-ghost use Rattle.std.specs.Prelude.{◌≡◌, ℤ, ◌==◌, ◌<◌, ◌≤◌, ◌^◌, ◌++◌, [], Option, false, length, map, take, drop, IfOk, IfSome, OnErr};
+ghost use Rattle.std.specs.Prelude.{◌≡◌, ℤ, ◌==◌, ◌<◌, ◌≤◌, ◌^◌, ◌++◌, [], Option, false, length, map, take, drop, slice_get, IfOk, IfSome, OnErr};
 ghost use Rattle.std.specs.List.{AllByRecursion};
 ghost use Rattle.std.specs.Option.{option_and_then, option_map, option_map_or};
 ghost use Rattle.checkpoint_spec.specs.fleet_rows.Change.{change_stamp, change_certname};
@@ -10,17 +10,18 @@ ghost use Rattle.checkpoint_spec.specs.fleet_rows.declared.settings.Ttls.{Ttls};
 ghost use Rattle.checkpoint_spec.specs.stamp_time.Range.{IsStampMoment};
 ghost use Rattle.checkpoint_spec.specs.history_spec.Trace.{applied_as};
 ghost use Rattle.checkpoint_spec.specs.table_machine.Node.{node_inactive};
+ghost use Rattle.checkpoint_spec.specs.table_machine.Rows.{node_rows};
 ghost use Rattle.checkpoint_spec.specs.table_machine.Steps.{find_node, with_node, with_applied, with_retained};
 ghost use Rattle.checkpoint_spec.specs.table_machine.Table as machine;
 ghost use Rattle.row_cells.specs.Texts.{HasPrintableMoments};
-ghost use Rattle.kept_nodes.specs.Counted.{IsCountedBefore, IsWithin, total_from, none};
-ghost use Rattle.fleet_tables.specs.Groups.{IsFilled, AreCountsOf, AreFew, rows_of, starts_above};
+ghost use Rattle.kept_nodes.specs.Counted.{IsCountedBefore, IsWithin, total_from, none, counts, count_of};
+ghost use Rattle.fleet_tables.specs.Groups.{IsFilled, AreCountsOf, AreFew, HaveRow, rows_of, starts_above};
 ghost use Rattle.kept_nodes.specs.Kept.{IsNode};
 ghost use Rattle.kept_nodes.specs.Places.{nodes_in, seen_in, left_by_purge, InOrder, IsNodeFor, reports_of};
 ghost use Rattle.kept_nodes.specs.ReportPlaces.{IsPlaceAmong};
 ghost use Rattle.fleet_tables.specs.Rooms.{IsRoomAt, IsNewFor};
 ghost use Rattle.kept_nodes.specs.Rows.{IsRowAt};
-ghost use Rattle.kept_nodes.specs.Seen.{newest_rank};
+ghost use Rattle.kept_nodes.specs.Seen.{newest_rank, node_seen};
 
 use crate::room::NewNode;
 use fleet_rows::json_tree::Text;
@@ -177,10 +178,23 @@ impl Group {
         match entity {
             Entity::Nodes => self.nodes[i].own_row(alloc, ttls, expiry),
             _ => {
-                let node = &self.nodes[node_of_row(self.nodes.as_slice(), entity, i)];
-                node.row(alloc, entity, i - node.before.of(entity))
+                let (node, row) = self.node_at(entity, i);
+                node.row(alloc, entity, row)
             }
         }
+    }
+
+    /// The node with row i of an entity other than `nodes`, and the index of the row among the node's rows.
+    pub(crate) fn node_at(&self, entity: Entity, i: usize) -> (&Node, usize)
+        requires { HaveRow entity i self.now }
+        ensures kept { IsNode result.0.now }
+        ensures within { result.1 < count_of entity (counts result.0.now) }
+        ensures row { (ttls : Ttls) (expiry : Option ℤ)
+            → slice_get (rows_of entity ttls expiry self.now) i ≡ slice_get (node_rows entity ttls expiry (node_seen result.0.now)) result.1 }
+    {
+        let at = node_of_row(self.nodes.as_slice(), entity, i);
+        let node: &Node = &self.nodes[at];
+        (node, i - node.before.of(entity))
     }
 
     /// Applies a change for which room was made.

@@ -1,21 +1,23 @@
 //! Stores the data of the tables, without an allocator of their own.
-ghost use Rattle.std.specs.Prelude.{◌≡◌, ◌<◌, ◌^◌, length, Some, None, IfOk, IfErr, IfSome, OnOk};
+ghost use Rattle.std.specs.Prelude.{◌≡◌, ◌<◌, ◌^◌, length, slice_get, Some, None, IfOk, IfErr, IfSome, OnOk};
 ghost use Rattle.std.specs.Option.{option_map};
 ghost use Rattle.checkpoint_spec.specs.stamp_time.Range.{IsStampMoment};
 ghost use Rattle.checkpoint_spec.specs.fleet_rows.Change.{change_certname};
 ghost use Rattle.checkpoint_spec.specs.history_spec.Lawful.{IsChange};
 ghost use Rattle.checkpoint_spec.specs.history_spec.Trace.{applied_as};
-ghost use Rattle.checkpoint_spec.specs.table_machine.Rows.{table_rows};
+ghost use Rattle.checkpoint_spec.specs.table_machine.Rows.{node_rows, table_rows};
 ghost use Rattle.checkpoint_spec.specs.table_machine.Steps.{empty_table, apply, expire, purge, retain, find_node};
 ghost use Rattle.checkpoint_spec.specs.table_machine.Table as machine;
 ghost use Rattle.row_cells.specs.Texts.{HasPrintableMoments};
 ghost use Rattle.fleet_tables.specs.Asked.{newest_in, is_inactive_in};
-ghost use Rattle.kept_nodes.specs.Counted.{IsWithin, plus, counts_changed};
+ghost use Rattle.kept_nodes.specs.Counted.{IsWithin, plus, counts, count_of, counts_changed};
+ghost use Rattle.kept_nodes.specs.Kept.{IsNode};
 ghost use Rattle.kept_nodes.specs.Places.{reports_of};
 ghost use Rattle.kept_nodes.specs.ReportPlaces.{IsPlaceAmong, IsPlaceFor};
 ghost use Rattle.kept_nodes.specs.Computed.{IsShownOf};
 ghost use Rattle.fleet_tables.specs.Rooms.{room_for, IsSpare, IsNew, IsNewFor};
 ghost use Rattle.kept_nodes.specs.Rows.{IsRowAt};
+ghost use Rattle.kept_nodes.specs.Seen.{node_seen};
 
 use crate::group::Group;
 use crate::groups;
@@ -247,6 +249,23 @@ impl State {
             i,
         );
         self.groups[at].row(alloc, &self.ttls, &self.expiry, entity, place)
+    }
+
+    /// The node with row i of an entity other than `nodes`, and the index of the row among the node's rows.
+    pub(crate) fn node_at(&self, entity: Entity, i: usize) -> (&Node, usize)
+        requires { i < length (table_rows entity self.now) }
+        ensures kept { IsNode result.0.now }
+        ensures within { result.1 < count_of entity (counts result.0.now) }
+        ensures row { slice_get (table_rows entity self.now) i
+            ≡ slice_get (node_rows entity self.now.ttls self.now.expiry (node_seen result.0.now)) result.1 }
+    {
+        let (at, place) = groups::group_of_row(
+            self.groups.as_slice(),
+            self.starts.as_slice(),
+            entity,
+            i,
+        );
+        self.groups[at].node_at(entity, place)
     }
 
     /// Expires nodes that had no activity for longer than the node lifetime.

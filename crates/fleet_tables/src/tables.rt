@@ -1,16 +1,19 @@
 //! The public calls of the tables.
-ghost use Rattle.std.specs.Prelude.{◌≡◌, ◌<◌, ◌+◌, ◌∷◌, [], length, IfOk, IfErr};
+ghost use Rattle.std.specs.Prelude.{◌≡◌, ◌<◌, ◌+◌, ◌∷◌, [], length, slice_get, IfOk, IfErr};
 ghost use Rattle.checkpoint_spec.specs.stamp_time.Range.{IsStampMoment};
 ghost use Rattle.checkpoint_spec.specs.history_spec.Lawful.{IsChange};
 ghost use Rattle.checkpoint_spec.specs.history_spec.Trace.{Trace, IsTrace, applied_as, applied, swept};
 ghost use Rattle.checkpoint_spec.specs.history_spec.Life.{life, is_inactive};
-ghost use Rattle.checkpoint_spec.specs.table_machine.Rows.{table_rows};
+ghost use Rattle.checkpoint_spec.specs.table_machine.Rows.{node_rows, table_rows};
 ghost use Rattle.checkpoint_spec.specs.table_machine.Steps.{empty_table, apply, expire, purge, retain};
 ghost use Rattle.checkpoint_spec.specs.table_spec.Rows.{rows};
 ghost use Rattle.fleet_tables.specs.Asked.{newest_in, is_inactive_in};
 ghost use Rattle.kept_nodes.specs.Computed.{IsShownOf};
+ghost use Rattle.kept_nodes.specs.Counted.{counts, count_of};
+ghost use Rattle.kept_nodes.specs.Kept.{IsNode};
 ghost use Rattle.fleet_tables.specs.Rooms.{room_for};
 ghost use Rattle.kept_nodes.specs.Rows.{IsRowAt};
+ghost use Rattle.kept_nodes.specs.Seen.{node_seen};
 ghost use Rattle.fleet_tables.specs.Stands.{Stands, expire_alone, purge_alone, reports_alone, newest_of};
 
 use crate::room::{Prepared, Room};
@@ -19,7 +22,7 @@ use crate::steps::Steps;
 use fleet_rows::json_tree::Text;
 use fleet_rows::stamp_time::Moment;
 use fleet_rows::{Change, Entity, Kind, Rank, Row, Ttls};
-use kept_nodes::{Derived, needed_by};
+use kept_nodes::{Derived, Node, needed_by};
 use std::alloc::{AllocError, Global};
 use std::marker::Model;
 use std::sync::ledger::Ledger;
@@ -152,6 +155,20 @@ impl Tables {
     {
         steps.tick();
         self.state.row(self.alloc, entity, i)
+    }
+
+    /// The node with row i of an entity other than `nodes`, and the index of the row among the node's rows. It counts as one step.
+    /// It takes no memory.
+    pub fn node_at<L: Ledger>(&self, entity: Entity, i: usize, steps: &mut Steps<L>) -> (&Node, usize)
+        requires { i < length (table_rows entity self.now) }
+        ensures step { steps.new ≡ steps.old + 1 }
+        ensures kept { IsNode result.0.now }
+        ensures within { result.1 < count_of entity (counts result.0.now) }
+        ensures row { slice_get (table_rows entity self.now) i
+            ≡ slice_get (node_rows entity self.now.ttls self.now.expiry (node_seen result.0.now)) result.1 }
+    {
+        steps.tick();
+        self.state.node_at(entity, i)
     }
 
     /// A sweep of expiry: expires nodes that had no activity for longer than the node lifetime. It takes no memory.

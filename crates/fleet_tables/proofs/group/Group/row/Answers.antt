@@ -1,5 +1,5 @@
 use Rattle.std.proofs.Common.{◌≡◌, ◌∙◌, ℕ, ℤ, List, ◌<◌, ◌-◌, get_or, slice_get, Option, Some, Result, Ok, Err, IfOk, length, refl, sym, ap, subst, arith}
-use Rattle.std.specs.List.{flat_map}
+use Rattle.std.specs.List.{AllByRecursion}
 use Rattle.std.specs.declared.alloc.AllocError.{AllocError}
 use Rattle.std.specs.declared.alloc.Global.{Global}
 use Rattle.std.specs.declared.boxed.Box.{Box}
@@ -13,7 +13,8 @@ use Rattle.checkpoint_spec.specs.table_spec.Rows.{Cells}
 use Rattle.kept_nodes.specs.Counted.{none, counts, count_of, total_from, AreCountedFrom}
 use Rattle.kept_nodes.specs.Places.{nodes_in, seen_in, Boxes, HasRow}
 use Rattle.checkpoint_spec.specs.table_machine.Rows.{node_rows}
-use Rattle.fleet_tables.specs.Groups.{rows_of}
+use Rattle.fleet_tables.specs.Groups.{rows_of, HaveRow}
+use Rattle.kept_nodes.specs.Kept.{IsNode}
 use Rattle.kept_nodes.specs.Rows.{IsRowAt}
 use Rattle.kept_nodes.specs.Seen.{node_seen}
 use Rattle.kept_nodes.specs.declared.node.Node.{Node}
@@ -59,61 +60,24 @@ returns-in-Nodes c =
 
 -- ---- the rows in nodes
 
-record Place (boxes : Boxes) (entity : Entity) (i k : ℕ) (b : Box Node Global) : Type 0 where
-  within : k < length boxes
-  there : slice_get (nodes_in boxes) k ≡ Some b.value
-  row : HasRow entity i b.value
-
-place : (boxes slice : Boxes) (entity : Entity) (i k : ℕ) (b : Box Node Global) → slice ≡ boxes → k < length slice → ((node : Node) → slice_get (nodes_in slice) k ≡ Some node → HasRow entity i node) → b ≡ get_or boxes k b → Place boxes entity i k b
-place boxes slice entity i k b same h row is =
-    let within : k < length boxes = subst (λ (l : Boxes). k < length l) same h in
-    let there = box_there boxes k b within is in
-    record { within = within; there = there; row = row b.value (ap (λ (l : Boxes). slice_get (nodes_in l) k) same ∙ there) }
+have_row : (boxes : Boxes) (nodes : List machine.Node) (entity : Entity) (i : ℕ) (ttls : Ttls) (expiry : Option ℤ) → AllByRecursion IsNode (nodes_in boxes) → seen_in boxes ≡ nodes → i < length (rows_of entity ttls expiry nodes) → HaveRow entity i nodes
+have_row boxes nodes entity i ttls expiry kept view h = λ t e.
+    let here = total_is ttls expiry entity (nodes_in boxes) kept ∙ ap (λ (ns : List machine.Node). length (rows_of entity ttls expiry ns)) view in
+    let there = total_is t e entity (nodes_in boxes) kept ∙ ap (λ (ns : List machine.Node). length (rows_of entity t e ns)) view in
+    omega (arith, h, here, there)
 
 row_moved : (r : Result Row AllocError) (entity : Entity) (ttls : Ttls) (expiry : Option ℤ) (nodes : List machine.Node) (node : machine.Node) (i j : ℕ) → slice_get (rows_of entity ttls expiry nodes) i ≡ slice_get (node_rows entity ttls expiry node) j
     → IfOk r (λ row. (ttls : Ttls) (expiry : Option ℤ) → IsRowAt row entity (node_rows entity ttls expiry node) j) → IfOk r (λ row. IsRowAt row entity (rows_of entity ttls expiry nodes) i)
 row_moved (Ok row) entity ttls expiry nodes node i j e made = let at = made ttls expiry in (at.0, e ∙ at.1)
 row_moved (Err err) entity ttls expiry nodes node i j e made = tt
 
-pub node_of_row-requires : goal.node_of_row-requires
-node_of_row-requires c =
-    let boxes = c.self.inside.nodes.items in
-    let number = total_is c.args.ttls.now c.args.expiry.now c.args.entity (nodes_in boxes) c.self.invariant.0 ∙ ap (λ (ns : List machine.Node). length (rows_of c.args.entity c.args.ttls.now c.args.expiry.now ns)) c.self.view_is in
-    record {
-      counted = subst (λ (l : Boxes). AreCountedFrom none (nodes_in l)) (sym c.as_slice.ensures.value) c.self.invariant.2;
-      within = subst (λ (l : Boxes). c.args.i < count_of c.args.entity (total_from none (nodes_in l))) (sym c.as_slice.ensures.value) (subst (λ n. c.args.i < n) (sym number) c.requires);
-    }
-
-pub overflow_sub-i : goal.overflow_sub-i
-overflow_sub-i c =
-    let p = place c.self.inside.nodes.items c.as_slice.result.now c.args.entity c.args.i c.node_of_row.result c.index-node.result.now c.as_slice.ensures.value c.node_of_row.ensures.place c.node_of_row.ensures.row c.index-node.ensures in
-    let before = c.of.ensures ∙ ap (λ (n : Node). count_of c.args.entity n.before) c.deref-in_default-2.ensures in
-    omega (arith, p.row.0, before)
+pub node_at-node-requires : goal.node_at-node-requires
+node_at-node-requires c = have_row c.self.inside.nodes.items c.args.self.now c.args.entity c.args.i c.args.ttls.now c.args.expiry.now c.self.invariant.0 c.self.view_is c.requires
 
 pub row-requires : goal.row-requires
-row-requires c =
-    let boxes = c.self.inside.nodes.items in
-    let p = place boxes c.as_slice.result.now c.args.entity c.args.i c.node_of_row.result c.index-node.result.now c.as_slice.ensures.value c.node_of_row.ensures.place c.node_of_row.ensures.row c.index-node.ensures in
-    let before = c.of.ensures ∙ ap (λ (n : Node). count_of c.args.entity n.before) c.deref-in_default-2.ensures in
-    let number = ap (λ (n : Node). count_of c.args.entity (counts n)) c.deref-in_default.ensures in
-    record {
-      other = c.in_default.not-Nodes;
-      kept = box_kept boxes c.node_of_row.result c.index-node.result.now c.deref-in_default.result.now c.self.invariant.0 p.within c.index-node.ensures c.deref-in_default.ensures;
-      within = omega (arith, p.row.0, p.row.1, before, number);
-    }
+row-requires c = record { kept = c.node_at-node.ensures.kept; other = c.in_default.not-Nodes; within = c.node_at-node.ensures.within; }
 
 pub returns-in_default : goal.returns-in_default
 returns-in_default c =
-    let boxes = c.self.inside.nodes.items in
-    let entity = c.args.entity in
-    let ttls = c.args.ttls.now in
-    let expiry = c.args.expiry.now in
-    let b = c.index-node.result.now in
-    let p = place boxes c.as_slice.result.now entity c.args.i c.node_of_row.result b c.as_slice.ensures.value c.node_of_row.ensures.place c.node_of_row.ensures.row c.index-node.ensures in
-    let before = c.of.ensures ∙ ap (λ (n : Node). count_of entity n.before) c.deref-in_default-2.ensures in
-    let kept = box_kept boxes c.node_of_row.result b b.value c.self.invariant.0 p.within c.index-node.ensures refl in
-    let at =
-    ap (λ (ns : List machine.Node). slice_get (flat_map (node_rows entity ttls expiry) ns) c.args.i) (sym c.self.view_is)
-    ∙ row_of_node ttls expiry entity (nodes_in boxes) c.node_of_row.result b.value c.args.i c.self.invariant.0 c.self.invariant.2 kept p.there p.row
-    ∙ (λ j. slice_get (node_rows entity ttls expiry (node_seen (sym c.deref-in_default.ensures j))) (c.args.i - sym before j)) in
-    row_moved c.row.result entity ttls expiry c.args.self.now (node_seen c.deref-in_default.result.now) c.args.i (c.args.i - c.of.result) at c.row.ensures
+    row_moved c.row.result c.args.entity c.args.ttls.now c.args.expiry.now c.args.self.now (node_seen c.node_at-node.result.0.now) c.args.i c.node_at-node.result.1
+    (c.node_at-node.ensures.row c.args.ttls.now c.args.expiry.now) c.row.ensures
