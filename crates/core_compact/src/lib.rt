@@ -8,7 +8,7 @@
 //!   counting files of both logs. After Ok they are the history's checkpoints (`checkpoints`). The answer Memory changes
 //!   nothing (`stays`).
 //! - Spent comes only if a log has no generation left or can't take its records (`spent`). If it is the store's log, both are
-//!   unchanged. If it is the queue's, the store's log began anew. Spent always comes in these cases, unless memory is missing
+//!   unchanged. If it is the queue's, the store's log is rewritten. Spent always comes in these cases, unless memory is missing
 //!   or, for the queue's log, the store fails (`store_unspent`, `queue_unspent`).
 //! - Faults are counted (`store_cause`, `queue_cause`). The core goes down only by such a fault (`store_goes_down`,
 //!   `queue_goes_down`, `up`).

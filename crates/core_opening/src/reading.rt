@@ -87,7 +87,7 @@ fn are_none(frames: &Vec<Bytes>) -> bool
     frames.is_empty()
 }
 
-/// Reads the frames of a file as a queue's log. Each frame is let go once it is read, so no two copies of a log are in memory.
+/// Reads the frames of a file as a queue's log. Each frame is dropped once it is read, so no two copies of a log are in memory.
 pub(crate) fn read_frames(alloc: Global, frames: Vec<Bytes>) -> Result<Reading, UnreadQueue>
     ensures told { MatchReading result frames.items }
 {

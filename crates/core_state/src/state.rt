@@ -16,7 +16,7 @@ use supersede_core::Pending;
 #[derive(Drop)]
 pub struct CoreState<D: Disk + Drop, K: Keeper + Drop> {
     pub alloc: Global,
-    /// The log of the commands that came in, and of what became of them.
+    /// The log of the commands that came in, and of how each one ended.
     pub queue: QueueLog<D>,
     /// The keeper of the changes and sweeps that are applied to the tables.
     pub store: K,
