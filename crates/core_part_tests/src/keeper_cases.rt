@@ -1,4 +1,4 @@
-//! The cases of keepers.
+//! The cases for keepers of the store's records.
 use crate::trials::try_all;
 use std::alloc::AllocError;
 

@@ -37,8 +37,7 @@ fn sevens(alloc: Global) -> Result<StoreRecords, AllocError>
     Ok(records)
 }
 
-// Keeps a change, unless the keeper is down. The record is let go by a call, so that no proof walks through its variants at each way
-// out.
+// Keeps a change, unless the keeper is down. The record is dropped by a call, so that no proof opens its variants at each exit.
 fn put<K: Keeper + Drop>(
     alloc: Global,
     keeper: &mut K,

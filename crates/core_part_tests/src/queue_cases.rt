@@ -1,4 +1,4 @@
-//! The cases of pending commands.
+//! The cases for pending commands: calls of their list, and its answers.
 use crate::trials::try_all;
 use std::alloc::AllocError;
 

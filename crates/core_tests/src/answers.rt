@@ -193,7 +193,7 @@ fn keeps(told: &Told) -> bool {
         && all <= told.received.saturating_add(1)
 }
 
-// Whether the node has facts, unless it needn't.
+// Whether the node has facts; true if it need not have any.
 fn has_facts<D: Disk + Drop, K: Keeper + Drop>(
     alloc: Global,
     core: &Core<D, K>,
@@ -205,7 +205,7 @@ fn has_facts<D: Disk + Drop, K: Keeper + Drop>(
     Ok(newest.is_some() || !must)
 }
 
-// Whether one command is discarded, unless it needn't.
+// Whether one command is discarded; true if none need be.
 fn has_discarded<D: Disk + Drop, K: Keeper + Drop>(core: &Core<D, K>, must: bool) -> bool {
     core.discards().count() == 1 || !must
 }

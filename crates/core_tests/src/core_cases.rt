@@ -1,4 +1,4 @@
-//! The cases of cores.
+//! The cases for cores: what each session does, and what it answers.
 use crate::trials::try_all;
 use std::alloc::AllocError;
 

@@ -84,7 +84,7 @@ fn unopened(notes: &mut Notes, text: &str) -> Result<(), AllocError> {
     says(notes, text.starts_with('?'), "true")
 }
 
-// Opens the files, and does what the words say. Where the text begins with `?`, the files needn't open.
+// Opens the files, and does what the words say. If the text begins with `?`, the opening may fail.
 fn session<D: Disk + Drop>(
     notes: &mut Notes,
     disks: Disks<D>,

@@ -1,4 +1,4 @@
-//! The cases of files that are opened.
+//! The cases for openings: files, and what is read in them.
 use crate::trials::try_all;
 use std::alloc::AllocError;
 

@@ -1,4 +1,4 @@
-//! Queries in both languages, of which the one means the other: their trees are one but for the places of names and operands.
+//! Pairs of queries, one in PQL and one in the AST, whose trees differ only in the positions of names and operands.
 use ast_reader::ast_tree::{
     Clause, Field, Filter, Level, Literal, Name, Order, Paging, Query, Scalar, Selected,
     function_name, shown_list,
@@ -29,7 +29,7 @@ nodes{ certname in facts[certname]{ value = 1 order by certname limit 2 } }|["fr
 nodes{ [certname] in [1] }|["from","nodes",["in",["certname"],["array",[1]]]]
 facts[count(), min(value), max(value), name]{ certname = 'a' group by name, certname order by name, count desc offset 3 }|["from","facts",["extract",[["function","count"],["function","min","value"],["function","max","value"],"name"],["=","certname","a"],["group_by","name","certname"]],["order_by",[["name","asc"],["count","desc"]]],["offset",3]]"#;
 
-/// A part of a query that a word and a text tell, but for its place.
+/// A part of a query, which is compared by a word and a text, and not by its position.
 trait Part {
     fn told(&self) -> (&'static str, &str);
 }
@@ -113,7 +113,7 @@ fn is_leaf_like(one: &Filter, other: &Filter) -> bool {
     }
 }
 
-// Trees that nest deeper than `depth` are told unlike.
+// Trees that nest deeper than `depth` count as different.
 #[cycle(like)]
 fn is_filter_like(one: &Filter, other: &Filter, depth: usize) -> bool {
     if depth == 0 {

@@ -1,4 +1,4 @@
-//! Cores in memory, and what comes in. What is large is let go by a call, so that no proof walks through it at each way out.
+//! Makes cores in memory, and the commands for them. Large values are dropped by a call, so that no proof opens them at each exit.
 ghost use Rattle.std.specs.Prelude.{◌≤◌, length, IfOk};
 ghost use Rattle.fleet_hub.specs.history_spec.Lawful.{HasStamp};
 

@@ -1,4 +1,4 @@
-//! Answers as text.
+//! Compares the answers of a hub, printed as text.
 use std::alloc::{AllocError, Global};
 use std::fmt::Debug;
 use std::process::Abort;
