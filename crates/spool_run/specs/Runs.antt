@@ -211,7 +211,7 @@ abbrev pub QueueRoseTwice : {D : Type 0} → DiskSight D → Disks D → Disks D
 QueueRoseTwice w disks after = RoseBy 2 (w.faults disks.queue_a) (w.faults after.queue_a) ⊎ RoseBy 2 (w.faults disks.queue_b) (w.faults after.queue_b)
 
 -- What each end says of the spool, of the disks and of what was printed. At QueueFault the store's log is up, and at StoreDown it is
--- down. At QueueFault an image may include a record that was left open only if the queue's log is down and failed twice.
+-- down. At QueueFault an image may include one record more, of any kind, only if the queue's log is down and failed twice.
 abbrev pub RunEnds : {D : Type 0} → Status → DiskSight D → ℤ → Stream → Stream → Stream → Stream → Disks D → Disks D → Type 0
 RunEnds status.Done w now spool spool_after out out_after disks after =
     RanThrough w now whole spool.bytes disks after (Appends out.bytes out_after.bytes) × IsAtEnd spool_after.bytes
