@@ -159,7 +159,12 @@ impl Tables {
 
     /// The node with row i of an entity other than `nodes`, and the index of the row among the node's rows. It counts as one step.
     /// It takes no memory.
-    pub fn node_at<L: Ledger>(&self, entity: Entity, i: usize, steps: &mut Steps<L>) -> (&Node, usize)
+    pub fn node_at<L: Ledger>(
+        &self,
+        entity: Entity,
+        i: usize,
+        steps: &mut Steps<L>,
+    ) -> (&Node, usize)
         requires { i < length (table_rows entity self.now) }
         ensures step { steps.new ≡ steps.old + 1 }
         ensures kept { IsNode result.0.now }

@@ -1,4 +1,4 @@
-use Rattle.std.proofs.Common.{◌≡◌, ◌∙◌, ℕ, ℤ, List, ◌<◌, ◌-◌, get_or, slice_get, Option, Some, Result, Ok, Err, IfOk, length, refl, sym, ap, subst, arith}
+use Rattle.std.proofs.Common.{◌≡◌, ◌∙◌, ℕ, ℤ, List, ◌<◌, slice_get, Option, Result, Ok, Err, IfOk, length, sym, ap, arith}
 use Rattle.std.specs.List.{AllByRecursion}
 use Rattle.std.specs.declared.alloc.AllocError.{AllocError}
 use Rattle.std.specs.declared.alloc.Global.{Global}
@@ -10,8 +10,7 @@ use Rattle.checkpoint_spec.specs.fleet_rows.declared.row.Row.{Row}
 use Rattle.checkpoint_spec.specs.fleet_rows.declared.settings.Ttls.{Ttls}
 use Rattle.checkpoint_spec.specs.table_machine.Table as machine
 use Rattle.checkpoint_spec.specs.table_spec.Rows.{Cells}
-use Rattle.kept_nodes.specs.Counted.{none, counts, count_of, total_from, AreCountedFrom}
-use Rattle.kept_nodes.specs.Places.{nodes_in, seen_in, Boxes, HasRow}
+use Rattle.kept_nodes.specs.Places.{nodes_in, seen_in, Boxes}
 use Rattle.checkpoint_spec.specs.table_machine.Rows.{node_rows}
 use Rattle.fleet_tables.specs.Groups.{rows_of, HaveRow}
 use Rattle.kept_nodes.specs.Kept.{IsNode}
@@ -21,7 +20,7 @@ use Rattle.kept_nodes.specs.declared.node.Node.{Node}
 use Rattle.kept_nodes.proofs.FoundNodes.{box_kept}
 use Rattle.kept_nodes.proofs.NodePlaces.{box_there}
 use Rattle.kept_nodes.proofs.RowCounts.{nodes_count, total_is}
-use Rattle.kept_nodes.proofs.RowPlaces.{single_at, row_of_node}
+use Rattle.kept_nodes.proofs.RowPlaces.{single_at}
 use Rattle.fleet_tables.proofs.group.Group.row.Goals as goal
 
 -- ---- the row of a node
@@ -71,13 +70,13 @@ row_moved : (r : Result Row AllocError) (entity : Entity) (ttls : Ttls) (expiry 
 row_moved (Ok row) entity ttls expiry nodes node i j e made = let at = made ttls expiry in (at.0, e ∙ at.1)
 row_moved (Err err) entity ttls expiry nodes node i j e made = tt
 
-pub node_at-node-requires : goal.node_at-node-requires
-node_at-node-requires c = have_row c.self.inside.nodes.items c.args.self.now c.args.entity c.args.i c.args.ttls.now c.args.expiry.now c.self.invariant.0 c.self.view_is c.requires
+pub node_at-row-requires : goal.node_at-row-requires
+node_at-row-requires c = have_row c.self.inside.nodes.items c.args.self.now c.args.entity c.args.i c.args.ttls.now c.args.expiry.now c.self.invariant.0 c.self.view_is c.requires
 
 pub row-requires : goal.row-requires
-row-requires c = record { kept = c.node_at-node.ensures.kept; other = c.in_default.not-Nodes; within = c.node_at-node.ensures.within; }
+row-requires c = record { kept = c.node_at-row.ensures.kept; other = c.in_default.not-Nodes; within = c.node_at-row.ensures.within }
 
 pub returns-in_default : goal.returns-in_default
 returns-in_default c =
-    row_moved c.row.result c.args.entity c.args.ttls.now c.args.expiry.now c.args.self.now (node_seen c.node_at-node.result.0.now) c.args.i c.node_at-node.result.1
-    (c.node_at-node.ensures.row c.args.ttls.now c.args.expiry.now) c.row.ensures
+    row_moved c.row.result c.args.entity c.args.ttls.now c.args.expiry.now c.args.self.now (node_seen c.node_at-row.result.0.now) c.args.i c.node_at-row.result.1
+    (c.node_at-row.ensures.row c.args.ttls.now c.args.expiry.now) c.row.ensures

@@ -7,7 +7,7 @@ use Rattle.fleet_tables.specs.Groups.{joined, AreFew}
 use Rattle.fleet_tables.proofs.ActiveLaws.{active_found}
 use Rattle.fleet_tables.proofs.JoinedNodes.{Groups}
 use Rattle.fleet_tables.proofs.RowBounds.{counted_few}
-use Rattle.fleet_tables.proofs.active.State.active_count.Goals as goal
+use Rattle.fleet_tables.proofs.state.State.active_count.Goals as goal
 
 pub count_active_groups-requires : goal.count_active_groups-requires
 count_active_groups-requires c =
