@@ -53,6 +53,19 @@ abbrev pub members_text : Bool → List (List ℕ) → List CellValue → List �
 members_text later (n ∷ ns) (x ∷ xs) = comma_if later ++ quoted n ++ 58 ∷ (cell_text x ++ members_text true ns xs)
 members_text later _ _ = 125 ∷ []
 
+-- what stands before the cell of a column; `later` if a member precedes it
+abbrev pub head_text : Bool → List ℕ → List ℕ
+head_text later name = comma_if later ++ quoted name ++ 58 ∷ []
+
+abbrev pub heads_text : Bool → List (List ℕ) → List (List ℕ)
+heads_text later [] = []
+heads_text later (n ∷ ns) = head_text later n ∷ heads_text true ns
+
+-- the members with these heads, and the closing brace
+abbrev pub headed_text : List (List ℕ) → List CellValue → List ℕ
+headed_text (h ∷ hs) (x ∷ xs) = h ++ cell_text x ++ headed_text hs xs
+headed_text _ _ = 125 ∷ []
+
 abbrev pub row_text : List (List ℕ) → List CellValue → List ℕ
 row_text names cells = 123 ∷ members_text false names cells
 

@@ -1,11 +1,11 @@
-//! Prints rows as JSON.
-ghost use Rattle.std.specs.Prelude.{◌≡◌, ◌↔◌, ◌++◌, ◌∷◌, [], IfOk, OnOk, IsTrue};
+//! Prints rows as JSON. The names of the columns are quoted once, and their texts are copied into each row.
+ghost use Rattle.std.specs.Prelude.{◌≡◌, ◌↔◌, ◌++◌, ◌∷◌, [], ℕ, List, false, IfOk, OnOk, IsTrue};
 ghost use Rattle.std.specs.List.{AllByRecursion};
 ghost use Rattle.means_spec.specs.text_spec.Compact.{comma_if, quoted};
 ghost use Rattle.means_spec.specs.stamp_time.Range.{IsPrintable};
 ghost use Rattle.means_spec.specs.fleet_rows.Cell.{cell_of, cells_of};
 ghost use Rattle.means_spec.specs.OutRows.{lines_text};
-ghost use Rattle.paging_text.specs.Shown.{rows_of, IsPrintableRow, short_text, can_be_printed, moment_text, cell_text, members_text, row_text, written_text};
+ghost use Rattle.paging_text.specs.Shown.{rows_of, IsPrintableRow, short_text, can_be_printed, moment_text, cell_text, head_text, heads_text, headed_text, row_text, written_text};
 
 use crate::rows::OutRows;
 use means_spec::fleet_rows::Cell;
@@ -20,12 +20,13 @@ pub fn write_rows(alloc: Global, rows: &OutRows) -> Result<Bytes, AllocError>
     ensures text { IfOk result (λ bytes. bytes ≡ written_text (rows_of rows.now)) }
     ensures lines { AllByRecursion IsPrintableRow rows.now.rows → IfOk result (λ bytes. bytes ≡ lines_text (rows_of rows.now)) }
 {
+    let heads = heads_of(alloc, rows.names.as_slice())?;
     let mut out = Vec::new(alloc);
     out.push(b'[')?;
     let mut later = false;
     for row in rows.rows.as_slice() {
         put_comma(&mut out, later)?;
-        put_row(&mut out, rows.names.as_slice(), row.as_slice())?;
+        put_row(&mut out, heads.as_slice(), row.as_slice())?;
         later = true;
     }
     out.push(b']')?;
@@ -41,27 +42,46 @@ fn put_comma(out: &mut Vec<u8>, later: bool) -> Result<(), AllocError>
     Ok(())
 }
 
-fn put_row(out: &mut Vec<u8>, names: &[Text], cells: &[Cell]) -> Result<(), AllocError>
-    ensures { OnOk result (out.new.items ≡ out.old.items ++ row_text names.now (cells_of cells.now)) }
+// What stands before the cell of each column: a comma in all but the first, the quoted name, and a colon.
+fn heads_of(alloc: Global, names: &[Text]) -> Result<Vec<Bytes>, AllocError>
+    ensures { IfOk result (λ heads. heads.items ≡ heads_text false names.now) }
+{
+    let mut heads = Vec::new(alloc);
+    let mut later = false;
+    for name in names {
+        heads.push(head_of(alloc, later, name.as_str())?)?;
+        later = true;
+    }
+    Ok(heads)
+}
+
+fn head_of(alloc: Global, later: bool, name: &str) -> Result<Bytes, AllocError>
+    ensures { IfOk result (λ head. head ≡ head_text later name.now) }
+{
+    let mut out = Vec::new(alloc);
+    put_comma(&mut out, later)?;
+    append_quoted(&mut out, name)?;
+    out.push(b':')?;
+    Ok(Bytes::from_vec(out))
+}
+
+fn put_row(out: &mut Vec<u8>, heads: &[Bytes], cells: &[Cell]) -> Result<(), AllocError>
+    ensures { (names : List (List ℕ)) → heads.now ≡ heads_text false names
+        → OnOk result (out.new.items ≡ out.old.items ++ row_text names (cells_of cells.now)) }
 {
     out.push(b'{')?;
-    put_members(out, false, names, cells)
+    put_members(out, heads, cells)
 }
 
 // Appends the members and the closing brace.
-fn put_members(
-    out: &mut Vec<u8>,
-    later: bool,
-    names: &[Text],
-    cells: &[Cell],
-) -> Result<(), AllocError>
-    ensures { OnOk result (out.new.items ≡ out.old.items ++ members_text later names.now (cells_of cells.now)) }
+fn put_members(out: &mut Vec<u8>, heads: &[Bytes], cells: &[Cell]) -> Result<(), AllocError>
+    ensures { OnOk result (out.new.items ≡ out.old.items ++ headed_text heads.now (cells_of cells.now)) }
 {
-    match names {
-        [name, names @ ..] => match cells {
+    match heads {
+        [head, heads @ ..] => match cells {
             [cell, cells @ ..] => {
-                put_member(out, later, name, cell)?;
-                put_members(out, true, names, cells)
+                put_member(out, head.as_slice(), cell)?;
+                put_members(out, heads, cells)
             }
             [] => put_bracket(out),
         },
@@ -76,12 +96,10 @@ fn put_bracket(out: &mut Vec<u8>) -> Result<(), AllocError>
     Ok(())
 }
 
-fn put_member(out: &mut Vec<u8>, later: bool, name: &Text, cell: &Cell) -> Result<(), AllocError>
-    ensures { OnOk result (out.new.items ≡ out.old.items ++ (comma_if later ++ quoted name.now ++ 58 ∷ cell_text (cell_of cell.now))) }
+fn put_member(out: &mut Vec<u8>, head: &[u8], cell: &Cell) -> Result<(), AllocError>
+    ensures { OnOk result (out.new.items ≡ out.old.items ++ (head.now ++ cell_text (cell_of cell.now))) }
 {
-    put_comma(out, later)?;
-    append_quoted(out, name.as_str())?;
-    out.push(b':')?;
+    out.extend_from_slice(head)?;
     put_cell(out, cell)
 }
 

@@ -1,6 +1,6 @@
 use Rattle.std.proofs.Common.{◌≡◌, ◌∙◌, [], ◌++◌, ap, sym, length, drop, arith}
 use Rattle.std.proofs.lemmas.List.{drop_all}
-use Rattle.paging_text.specs.Shown.{rows_of, rows_behind, written_text}
+use Rattle.paging_text.specs.Shown.{rows_of, rows_behind}
 use Rattle.paging_text.proofs.RowTexts.{rows_text_is}
 use Rattle.paging_text.proofs.write.write_rows.Goals as goal
 
