@@ -1,4 +1,4 @@
-//! The core and its calls.
+//! Holds a core together, and makes its calls by the crates below.
 ghost use Rattle.std.specs.Prelude.{◌≡◌, ◌≤◌, length, false, ◌^◌, ◌-◌, min};
 ghost use Rattle.core_submits.specs.supersede_core.Waiting.{payload_bytes};
 ghost use Rattle.core_layout.specs.history_spec.Lawful.{HasStamp};

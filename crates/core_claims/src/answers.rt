@@ -1,4 +1,4 @@
-//! The answers of a claim.
+//! Defines what a claim can answer.
 use crate::job::Job;
 
 /// The result of a claim. Commands that were superseded before a refusal stay superseded.

@@ -1,4 +1,4 @@
-//! The answers of a compaction.
+//! Defines what a compaction can answer.
 
 /// The result of a compaction.
 #[derive(Clone, Copy, PartialEq, Eq, Debug)]

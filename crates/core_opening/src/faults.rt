@@ -1,4 +1,4 @@
-//! The reasons why a core can't be opened.
+//! Names the reasons why a core can't be opened.
 use thiserror::Error;
 
 /// One of the four files.

@@ -1,4 +1,4 @@
-//! A worker's verdict on a command, and the answers of a settle.
+//! Defines a worker's verdict on a command, and what a settle can answer.
 use crate::prepared::Prepared;
 use core_claims::Job;
 use fleet_rows::Refusal;

@@ -1,4 +1,4 @@
-//! The list of events since the opening.
+//! Keeps the list of events since the opening, one byte each.
 ghost use Rattle.std.specs.Prelude.{◌≡◌, ◌+◌, ◌<◌, ◌≤◌, [], ◌∷◌, length, OnOk};
 ghost use Rattle.core_state.specs.Tallies.{tally_of};
 

@@ -1,4 +1,4 @@
-//! The records that an opening found.
+//! Names the records that an opening found, for contracts alone.
 use queue_log::QueueRecords;
 use queue_log::fleet_keeper::StoreRecords;
 use std::snapshot::Snapshot;

@@ -1,4 +1,4 @@
-//! A note of an event, of which memory holds the kind alone.
+//! Notes an event, of which memory holds the kind alone.
 ghost use Rattle.std.specs.Prelude.{◌≡◌};
 ghost use Rattle.core_state.specs.EventKinds.{kind_of};
 

@@ -1,4 +1,4 @@
-//! The parts of a core, and what takes it down.
+//! Holds the parts of a core, and tells what takes it down.
 ghost use Rattle.std.specs.Prelude.{◌≡◌};
 ghost use Rattle.core_state.specs.Seen.{down_of, down_by_of};
 

@@ -1,4 +1,4 @@
-//! The answers of a sweep.
+//! Defines what a sweep can answer.
 
 /// The result of a sweep.
 #[derive(Clone, Copy, PartialEq, Eq, Debug)]
