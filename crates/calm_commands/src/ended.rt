@@ -1,4 +1,4 @@
-//! The end of a command, with its disks.
+//! Carries the end of a command, with its disks.
 use crate::status::Status;
 use fleet_ports::{Disk, Disks};
 

@@ -1,4 +1,4 @@
-//! The statuses of the program: exit codes and lines.
+//! Defines the statuses of the program: exit codes and lines.
 ghost use Rattle.std.specs.Prelude.{◌≡◌, ◌++◌, IfOk, OnOk};
 ghost use Rattle.calm_commands.specs.StatusText.{status_code, status_line, damaged_front, line_front, line_number, number_text, line_end};
 

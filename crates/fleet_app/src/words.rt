@@ -1,4 +1,4 @@
-//! Which arguments need the files, and which commands don't wait.
+//! Tells which arguments need the files, and which commands don't wait.
 ghost use Rattle.std.specs.Prelude.{◌≡◌, ◌↔◌, IfOk, IsTrue};
 ghost use Rattle.fleet_app.specs.Words.{IsCalm, NeedDisks};
 

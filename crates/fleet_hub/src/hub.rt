@@ -1,4 +1,4 @@
-//! The hub and its calls.
+//! Defines the hub and its calls, one hold each.
 ghost use Rattle.std.specs.Prelude.{◌≡◌, ℕ, ◌+◌, ◌<◌, ◌≤◌, ◌++◌, ◌↔◌, [], false, length, Err, IfOk, IfErr, OnErr};
 ghost use mathlib.Core.List.{IsPrefix};
 ghost use Rattle.core_drain.specs.history_spec.Lawful.{HasStamp};

@@ -1,4 +1,4 @@
-//! The decoder that workers call outside the lock.
+//! Decodes for the workers, outside the lock.
 ghost use Rattle.std.specs.Prelude.{◌<◌, ◌^◌, length};
 ghost use Rattle.core_ends.specs.command_decode.Answers.{DecodedAs};
 

@@ -1,4 +1,4 @@
-//! The loop of one worker.
+//! Works as one worker: claims, decodes and settles, until an end.
 ghost use Rattle.std.specs.Prelude.{◌≡◌, Some, None};
 ghost use Rattle.core_ends.specs.Answers.{after_claim};
 ghost use Rattle.core_ends.specs.core_settles.Settles.{IsVerdictOf};

@@ -1,4 +1,4 @@
-//! How serving a front ends.
+//! Names the ways in which serving a front ends.
 
 /// How serving a front ended.
 #[derive(Clone, Copy, PartialEq, Eq, Debug)]

@@ -1,4 +1,4 @@
-//! Disks for commands that use none.
+//! Gives disks to commands that use none: each call of them fails.
 ghost use Rattle.std.specs.Prelude.{◌≤◌};
 ghost use Rattle.port_real.specs.fleet_ports.Counts.{Rose};
 

@@ -1,4 +1,4 @@
-//! The standard error as a sink.
+//! Makes the standard error a sink.
 ghost use Rattle.std.specs.Prelude.{◌≡◌};
 
 use fleet_ports::{Put, Sink};

@@ -1,4 +1,4 @@
-//! Why a query is refused, and the text that is printed for it.
+//! Says why a query is refused, and prints it.
 ghost use Rattle.std.specs.Prelude.{◌≡◌, ◌++◌, IfOk, OnOk, ℕ, decimal};
 ghost use Rattle.query_answer.specs.RefusalText.{refusal_text, path_text, dotted};
 

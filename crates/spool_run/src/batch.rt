@@ -1,4 +1,4 @@
-//! The batch limits: when pending commands are settled.
+//! Tells when a batch limit is reached, so that pending commands are settled.
 ghost use Rattle.std.specs.Prelude.{◌↔◌, IsTrue};
 ghost use Rattle.spool_run.specs.Rules.{IsBatch};
 

@@ -1,4 +1,4 @@
-//! The ends of taking a spool, and of its steps.
+//! Names the ends of taking a spool, and of its steps.
 use fleet_hub::{Core, Keeper};
 use fleet_ports::Disk;
 

@@ -1,4 +1,4 @@
-//! The law that a whole spool gives the tables of one thread.
+//! States the law that a whole spool gives the tables of one thread.
 ghost use Rattle.fleet_hub.specs.core_course.Sight.{sight_of};
 ghost use Rattle.spool_run.specs.Laws.{WholeSpoolsAreOneThread};
 
