@@ -1,6 +1,6 @@
 -- What the bytes begin with, by their first line and what stands behind it.
-use Rattle.std.proofs.Common.{◌≡◌, ◌≢◌, ◌∙◌, ℕ, zero, suc, ◌+◌, ◌<◌, ℤ, List, [], ◌∷◌, ◌++◌, length, take, drop, arith, refl, sym, ap, subst, Option, Some, None, IfSome, append_assoc, append-nil, length-append}
-use Rattle.std.proofs.lemmas.List.{take-append-drop, drop_more, length-take-le}
+use Rattle.std.proofs.Common.{◌≡◌, ◌≢◌, ◌∙◌, ℕ, zero, suc, ◌+◌, ◌-◌, ◌≤◌, ◌<◌, ℤ, List, [], ◌∷◌, ◌++◌, length, take, drop, replicate, arith, refl, sym, ap, subst, Option, Some, None, IfSome, append_assoc, append-nil, length-append}
+use Rattle.std.proofs.lemmas.List.{take-append-drop, take_all, drop_more, length-take-le, length-replicate}
 use Rattle.std.specs.Io.KnownBytes.{Keeps, Consumes, IsAtEnd, prepend_known}
 use Rattle.std.proofs.KnownBytes.{Consumes-trans}
 use Rattle.text_spec.specs.StampReader.{◌>>=◌, one_of}
@@ -22,7 +22,7 @@ use Rattle.spool_text.specs.FirstLine.{first_line_at, item_after}
 use Rattle.spool_text.specs.Unread.{HasLine, HasNoLine, IsShort}
 use Rattle.spool_text.specs.declared.item.NextItem.{NextItem}
 use Rattle.spool_text.specs.declared.item.NextItem.TheVariants as next
-use Rattle.spool_text.specs.Next.{Gives, IsBad, StopsIn, IfItem, IfBad}
+use Rattle.spool_text.specs.Next.{Gives, IsBad, IsOpen, in_line, in_item, StopsIn, IfItem, IfBad}
 use Rattle.spool_text.proofs.Pieces.{no_byte}
 use Rattle.spool_text.proofs.LinesJoined.{item_at-line}
 use Rattle.history_laws.specs.spool_spec.Limits.{most_spool}
@@ -43,6 +43,13 @@ takes_line n bytes (Some more) h =
 
 some_bytes : (xs ys : List ℕ) → xs ≡ ys → 0 < length ys → xs ≢ []
 some_bytes xs ys e h empty = let none : length ys ≡ 0 = ap length (sym e ∙ empty) in omega (arith, none)
+
+-- ---- a whole item
+
+whole_text : (received : ℤ) (item : Item) (text : List ℕ) → item_at received text ≡ Some (item, []) → IsItemText received item text
+whole_text received item text h =
+    let w = what_is_read_is_an_item_text received text item [] h in
+    subst (IsItemText received item) (sym (append-nil w.0) ∙ sym w.2) w.1
 
 -- ---- no item
 
@@ -197,30 +204,63 @@ module _ (received : ℤ) (p n : ℕ) (bytes : List ℕ) (h : HasLine n bytes) w
         subst (λ xs. BeginsWithItem received p xs → ⊥) (sym (append_assoc (take n bytes) (10 ∷ []) payload))
         (unread_is_bad received p (take n bytes ++ 10 ∷ payload) (by_first_line received (take n bytes) payload h.no_feed (first.Command kind version size) is_first ∙ none))
 
-    pub stops_in_payload : (after : List ℕ) (left rest : Option (List ℕ)) → after ≡ drop (n + 1) bytes → IsShort size (prepend_known after left) rest → StopsIn received p (prepend_known bytes left) rest
-    stops_in_payload after left rest e s = record {
+    -- with further bytes it is an item, if that ends at byte 2^62 or before
+    payload_open : (part : List ℕ) → length part ≤ size → p + (n + size + 2) ≤ most_spool → IsOpen received p ((take n bytes ++ 10 ∷ []) ++ part)
+    payload_open part short fits =
+        let line = take n bytes in
+        let fill : List ℕ = replicate (size - length part) 0 in
+        let payload = part ++ fill in
+        let item = command (record { kind = kind; version = version; received = received; payload = payload }) in
+        let text = line ++ 10 ∷ (payload ++ 10 ∷ []) in
+        let s : length payload ≡ size = omega (arith, length-append part fill, length-replicate {A = ℕ} (size - length part) 0, short) in
+        let line_length : length line ≡ n = length-take-le n bytes (omega (arith, h.inside)) in
+        let read : item_at received text ≡ Some (item, []) =
+        by_first_line received line (payload ++ 10 ∷ []) h.no_feed (first.Command kind version size) is_first ∙ payload_then received kind version size payload (10 ∷ []) s
+        ∙ ap (λ o. o >>= (λ (r : List ℕ). Some (item, r))) (one_of-byte 10 []) in
+        in_item (fill ++ 10 ∷ [])
+        (record {
+          item = item;
+          text = text;
+          rest = [];
+          is_item = whole_text received item text read;
+          bytes_are =
+              append_assoc (line ++ 10 ∷ []) part (fill ++ 10 ∷ [])
+              ∙ (append_assoc line (10 ∷ []) (part ++ (fill ++ 10 ∷ []))
+              ∙ (ap (λ xs. line ++ 10 ∷ xs) (sym (append_assoc part fill (10 ∷ []))) ∙ sym (append-nil text)));
+          ends = omega (arith, fits, s, line_length, length-append line (10 ∷ (payload ++ 10 ∷ [])), length-append payload (10 ∷ []));
+        })
+
+    pub stops_in_payload : (after : List ℕ) (left rest : Option (List ℕ)) → p + (n + size + 2) ≤ most_spool → after ≡ drop (n + 1) bytes → IsShort size (prepend_known after left) rest → StopsIn received p (prepend_known bytes left) rest
+    stops_in_payload after left rest fits e s = record {
       taken = (take n bytes ++ 10 ∷ []) ++ s.part;
       is_taken =
           Consumes-trans (prepend_known bytes left) (prepend_known (drop (n + 1) bytes) left) rest (take n bytes ++ 10 ∷ []) s.part (takes_line n bytes left h)
           (subst (λ xs. Consumes (prepend_known xs left) rest s.part) e s.is_taken);
       no_item = payload_cut s.part s.short;
+      is_open = payload_open s.part (omega (arith, s.short)) fits;
     }
 
-    pub stops_at_feed : (after payload : List ℕ) (left behind rest : Option (List ℕ)) → after ≡ drop (n + 1) bytes → length payload ≡ size → Consumes (prepend_known after left) behind payload → Consumes behind rest []
+    pub stops_at_feed : (after payload : List ℕ) (left behind rest : Option (List ℕ)) → p + (n + size + 2) ≤ most_spool → after ≡ drop (n + 1) bytes → length payload ≡ size → Consumes (prepend_known after left) behind payload → Consumes behind rest []
         → StopsIn received p (prepend_known bytes left) rest
-    stops_at_feed after payload left behind rest e s taken none = record {
+    stops_at_feed after payload left behind rest fits e s taken none = record {
       taken = (take n bytes ++ 10 ∷ []) ++ payload;
       is_taken =
           Consumes-trans (prepend_known bytes left) (prepend_known (drop (n + 1) bytes) left) rest (take n bytes ++ 10 ∷ []) payload (takes_line n bytes left h)
           (subst (Consumes (prepend_known (drop (n + 1) bytes) left) rest) (append-nil payload)
           (Consumes-trans (prepend_known (drop (n + 1) bytes) left) behind rest payload [] (subst (λ xs. Consumes (prepend_known xs left) behind payload) e taken) none));
       no_item = feed_lacks payload s;
+      is_open = payload_open payload (omega (arith, s)) fits;
     }
 
 -- ---- a read failed before a first line was there
 
-pub stops_in_line : (received : ℤ) (p : ℕ) (bytes : List ℕ) (old rest : Option (List ℕ)) → Keeps old (prepend_known bytes rest) → HasNoLine bytes → StopsIn received p old rest
-stops_in_line received p bytes old rest kept none = record { taken = bytes; is_taken = all_taken old rest kept; no_item = no_line_is_bad received p bytes none }
+pub stops_in_line : (received : ℤ) (p : ℕ) (bytes : List ℕ) (old rest : Option (List ℕ)) → Keeps old (prepend_known bytes rest) → HasNoLine bytes × (length bytes < 201) → StopsIn received p old rest
+stops_in_line received p bytes old rest kept none = record {
+  taken = bytes;
+  is_taken = all_taken old rest kept;
+  no_item = no_line_is_bad received p bytes none.0;
+  is_open = in_line (subst NoFeed (take_all 201 bytes (omega (arith, none.1))) none.0) none.1;
+}
   where
     all_taken : (old rest : Option (List ℕ)) → Keeps old (prepend_known bytes rest) → Consumes old rest bytes
     all_taken None rest kept = tt
@@ -228,7 +268,7 @@ stops_in_line received p bytes old rest kept none = record { taken = bytes; is_t
     all_taken (Some xs) (Some ys) kept = sym kept
 
 pub kept_stops : (received : ℤ) (p : ℕ) (old mid rest : Option (List ℕ)) → Keeps old mid → StopsIn received p mid rest → StopsIn received p old rest
-kept_stops received p old mid rest kept s = record { taken = s.taken; is_taken = step old mid rest kept s.is_taken; no_item = s.no_item }
+kept_stops received p old mid rest kept s = record { taken = s.taken; is_taken = step old mid rest kept s.is_taken; no_item = s.no_item; is_open = s.is_open }
   where
     step : (old mid rest : Option (List ℕ)) → Keeps old mid → Consumes mid rest s.taken → Consumes old rest s.taken
     step None mid rest h k = tt
@@ -237,11 +277,6 @@ kept_stops received p old mid rest kept s = record { taken = s.taken; is_taken =
     step (Some x) (Some y) (Some z) h k = sym h ∙ k
 
 -- ---- an item is given
-
-whole_text : (received : ℤ) (item : Item) (text : List ℕ) → item_at received text ≡ Some (item, []) → IsItemText received item text
-whole_text received item text h =
-    let w = what_is_read_is_an_item_text received text item [] h in
-    subst (IsItemText received item) (sym (append-nil w.0) ∙ sym w.2) w.1
 
 gives_payload : (received : ℤ) (p q n : ℕ) (bytes : List ℕ) (kind : Kind) (version size : ℕ) (payload rest : List ℕ) (left behind after : Option (List ℕ)) → HasLine n bytes → first_line_at (take n bytes) ≡ Some (first.Command kind version size) → length payload ≡ size → rest ≡ drop (n + 1) bytes → Consumes (prepend_known rest left) behind payload → Consumes behind after (10 ∷ []) → q ≡ p + (n + size + 2) → Gives received (command (record { kind = kind; version = version; received = received; payload = payload })) p q (prepend_known bytes left) after
 gives_payload received p q n bytes kind version size payload rest left behind after h is_first s e taken feed count =

@@ -1,5 +1,6 @@
 -- What one call of `next_item` returns, over the bytes before and after it.
-use Rattle.std.specs.Prelude.{◌≡◌, ◌≢◌, ℕ, ◌+◌, ℤ, List, [], length, Option}
+use Rattle.std.specs.Prelude.{◌≡◌, ◌≢◌, ℕ, ◌+◌, ◌<◌, ℤ, List, [], ◌++◌, length, Option}
+use Rattle.std.specs.List.{AllByRecursion}
 use Rattle.std.specs.Io.KnownBytes.{Consumes, prepend_known}
 use Rattle.spool_maker.specs.history_spec.Thread.{Item, command, sweep}
 use Rattle.history_laws.specs.spool_spec.Spool.{IsItemText, BeginsWithItem}
@@ -49,12 +50,19 @@ pub record Gives (received : ℤ) (item : Item) (p q : ℕ) (old new : Option (L
   pub taken : Consumes old new text
   pub counted : q ≡ p + length text
 
--- The bytes that were taken begin with no item, and `rest` follows them. So a read that failed was asked for: no item stood whole
--- before it.
+-- Only more bytes tell what these are, which begin at byte p. They are fewer than 201, without a line feed; or further bytes make
+-- them an item.
+pub data IsOpen (received : ℤ) (p : ℕ) (bytes : List ℕ) : Type 0 where
+  in_line : AllByRecursion (λ c. c ≢ 10) bytes → length bytes < 201 → IsOpen received p bytes
+  in_item : (more : List ℕ) → BeginsWithItem received p (bytes ++ more) → IsOpen received p bytes
+
+-- The bytes that were taken begin with no item and are open, and `rest` follows them. So a read that failed was asked for: before it
+-- neither an item nor a malformed first line stood whole.
 pub record StopsIn (received : ℤ) (p : ℕ) (old rest : Option (List ℕ)) : Type 0 where
   pub taken : List ℕ
   pub is_taken : Consumes old rest taken
   pub no_item : ¬ BeginsWithItem received p taken
+  pub is_open : IsOpen received p taken
 
 -- bytes are left, and from byte p on they begin with no item
 pub record IsBad (received : ℤ) (p : ℕ) (bytes : List ℕ) : Type 0 where

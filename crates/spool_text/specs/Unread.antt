@@ -38,7 +38,7 @@ abbrev pub IsFront : Front → List ℕ → Option (List ℕ) → Type 0
 IsFront (front.Line n) bytes left = HasLine n bytes × (n < 201)
 IsFront front.NoLine bytes left = IfSome left (λ all. (all ≢ []) × HasNoLine all)
 IsFront front.Nothing bytes left = IsAtEnd left
-IsFront front.Failed bytes left = HasNoLine bytes
+IsFront front.Failed bytes left = HasNoLine bytes × (length bytes < 201)
 
 -- the payload was taken, or fewer bytes than its length remain
 abbrev pub IsPayload : Payload → ℕ → Option (List ℕ) → Option (List ℕ) → Type 0

@@ -50,8 +50,8 @@ impl SpoolReader {
         ensures more { IfItem result (λ item. place self.old < place self.new) }
         ensures within { place self.new ≤ most_spool }
 
-        // Without an item the count of bytes is unchanged, and at most one item's bytes are lost. Before a read that failed no item
-        // stood whole. Any read may fail, so none is made while an item stands there.
+        // Without an item the count of bytes is unchanged, and at most one item's bytes are lost. Before a read that failed neither an
+        // item nor a malformed first line stood whole. Any read may fail, so none is made while one of them stands there.
         ensures stays { IfNoItem result (place self.new ≡ place self.old) }
         ensures fault { result ≡ NextItem.ReadFault
             → StopsIn received (place self.old) (unread self.old (S.left source.old)) (S.left source.new) }

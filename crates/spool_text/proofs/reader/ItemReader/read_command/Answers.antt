@@ -49,10 +49,10 @@ returns-in-Memory-clause-lost g c =
 
 pub returns-in-Failed-take_feed-clause-fault : goal.returns-in-Failed-take_feed-clause-fault
 returns-in-Failed-take_feed-clause-fault g c = λ _.
-    stops_at_feed c.args.received c.args.self.now.given c.args.len (buffered c.args.self.now.piece) c.requires.line c.args.kind c.args.version c.args.size c.requires.first _ c.in-Whole.payload.items (g.S.Source.left c.args.source.now) _ _ c.advance.ensures.rest c.in-Whole.ensures.payload.0 c.in-Whole.ensures.payload.1
+    stops_at_feed c.args.received c.args.self.now.given c.args.len (buffered c.args.self.now.piece) c.requires.line c.args.kind c.args.version c.args.size c.requires.first _ c.in-Whole.payload.items (g.S.Source.left c.args.source.now) _ _ (omega arith) c.advance.ensures.rest c.in-Whole.ensures.payload.0 c.in-Whole.ensures.payload.1
     (c.take_feed.ensures.fault (search rules))
 
 pub returns-in-Failed-clause-fault : goal.returns-in-Failed-clause-fault
 returns-in-Failed-clause-fault g c = λ _.
-    stops_in_payload c.args.received c.args.self.now.given c.args.len (buffered c.args.self.now.piece) c.requires.line c.args.kind c.args.version c.args.size c.requires.first _ (g.S.Source.left c.args.source.now) _ c.advance.ensures.rest
+    stops_in_payload c.args.received c.args.self.now.given c.args.len (buffered c.args.self.now.piece) c.requires.line c.args.kind c.args.version c.args.size c.requires.first _ (g.S.Source.left c.args.source.now) _ (omega arith) c.advance.ensures.rest
     (c.take_payload.ensures.fault (search rules))
