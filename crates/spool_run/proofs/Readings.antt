@@ -64,21 +64,15 @@ bad_spool now items (Some bytes) (Some rest) q at h e b =
 
 -- ---- where reading failed
 
--- bytes that begin with no item have none
-no_items : (now : ℤ) (p : ℕ) (bytes : List ℕ) → (BeginsWithItem now p bytes → ⊥) → (end : End) × ItemsFrom now p bytes [] end
-no_items now p [] none = (whole, refl)
-no_items now p (b ∷ bytes) none = (bad_at p, (refl, (λ e. cc), none))
-
-read_front : (now : ℤ) (taken rest : List ℕ) (items : List Item) (p : ℕ) (bytes : List ℕ) (q : ℕ) → StandFrom now p bytes items q (taken ++ rest) → (BeginsWithItem now q taken → ⊥)
-    → (front : List ℕ) × (bytes ≡ front ++ rest) × (end : End) × ItemsFrom now p front items end
-read_front now taken rest [] p bytes q h none =
-    let ends = no_items now p taken (subst (λ n. BeginsWithItem now n taken → ⊥) (sym h.0) none) in (taken, h.1, ends.0, ends.1)
-read_front now taken rest (item ∷ items) p bytes q h none =
-    let behind = read_front now taken rest items (p + length h.0) h.1 q h.5 none in (
+-- the items stand in what was taken
+read_front : (now : ℤ) (taken rest : List ℕ) (items : List Item) (p : ℕ) (bytes : List ℕ) (q : ℕ) → StandFrom now p bytes items q (taken ++ rest)
+    → (front : List ℕ) × (bytes ≡ front ++ rest) × StandFrom now p front items q taken
+read_front now taken rest [] p bytes q h = (taken, h.1, (h.0, refl))
+read_front now taken rest (item ∷ items) p bytes q h =
+    let behind = read_front now taken rest items (p + length h.0) h.1 q h.5 in (
       h.0 ++ behind.0,
       h.3 ∙ ap (λ xs. h.0 ++ xs) behind.1 ∙ sym (append_assoc h.0 behind.0 rest),
-      behind.2,
-      (h.0, behind.0, h.2, refl, h.4, behind.3),
+      (h.0, behind.0, h.2, refl, h.4, behind.2),
     )
 
 pub were_read : (now : ℤ) (items : List Item) (bytes old rest : Option (List ℕ)) (q : ℕ) → IsReadTo now bytes items q old → next.StopsIn now q old rest → WereRead now bytes rest items
@@ -86,8 +80,8 @@ were_read now items None old rest q h s = tt
 were_read now items (Some bytes) None rest q h s = absurd h
 were_read now items (Some bytes) (Some left) None q h s = absurd s.is_taken
 were_read now items (Some bytes) (Some left) (Some rest) q h s =
-    let front = read_front now s.taken rest items 0 bytes q (subst (StandFrom now 0 bytes items q) s.is_taken h) s.no_item in
-    (front.0, front.1, front.2, front.3)
+    let front = read_front now s.taken rest items 0 bytes q (subst (StandFrom now 0 bytes items q) s.is_taken h) in
+    (front.0, front.1, q, s.taken, front.2, s.no_item, s.is_open)
 
 -- ---- a front
 
