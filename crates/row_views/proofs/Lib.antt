@@ -1,0 +1,2 @@
+-- What those above use of the crates below.
+pub use Rattle.fleet_tables.proofs.of_kept_nodes as of_kept_nodes

@@ -1,0 +1,5 @@
+pub mod Seen
+pub mod Held
+-- Re-exports for the crates above.
+pub use Rattle.fleet_tables.specs as fleet_tables
+pub use Rattle.paging_text.specs as paging_text
