@@ -22,7 +22,8 @@ use paging_text::{Lines, OutRows, page};
 use pattern_port::Keys;
 use query_plan::ast_tree::{makes_groups, shown_list};
 use query_plan::query_spec::{Function, Name, Paging, Place, Selected, Selection};
-use query_rows::{cell_in, column_names, copy_or_null};
+use query_rows::{column_names, copy_or_null};
+use row_views::cell_in;
 use std::alloc::{AllocError, Global};
 
 /// The rows of a level, or the place of its first sum that is too large.

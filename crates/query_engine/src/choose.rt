@@ -1,7 +1,6 @@
 //! Finds the rows that a stage chooses.
 ghost use Rattle.std.specs.Prelude.{◌≡◌, ◌++◌, ◌∷◌, ◌+◌, ◌*◌, ◌<◌, ◌≤◌, [], ℕ, List, map, length, IfOk, OnOk, Some, filter, true};
 ghost use Rattle.std.specs.List.{AllByRecursion};
-ghost use Rattle.fleet_tables.specs.fleet_rows.Cell.{cells_of};
 ghost use Rattle.query_plan.specs.Plan.{chosen_rows, is_chosen};
 ghost use Rattle.query_plan.specs.Made.{stage_of};
 ghost use Rattle.query_plan.specs.table_spec.Rows.{Cells as CellsValue};
@@ -18,13 +17,14 @@ ghost use Rattle.query_engine.specs.Joins.{Joins, step_join};
 use crate::facts::facts_for;
 use crate::joins::Nodes;
 use crate::reading::places_for;
-use fleet_tables::fleet_rows::{Cell, Cells, Entity};
+use fleet_tables::fleet_rows::Entity;
 use fleet_tables::{Steps, Tables};
 use paging_text::Lines;
 use pattern_port::Patterns;
 use query_plan::Stage;
 use query_reach::Pins;
 use query_rows::{Known, Ready, Scene, holds, is_seen};
+use row_views::{View, view_at};
 use same_text::json_tree::Text;
 use std::alloc::{AllocError, Global};
 use std::sync::ledger::Ledger;
@@ -36,7 +36,7 @@ fn is_chosen<P: Patterns>(
     found: &[Known],
     stage: &Stage,
     steps: &[Ready],
-    row: &[Cell],
+    row: &View<'_>,
 ) -> Result<bool, AllocError>
     requires { steps.now ≡ stage.now.steps }
     ensures same { (p t : List ℕ) → P.says patterns.new p t ≡ P.says patterns.old p t }
@@ -44,7 +44,7 @@ fn is_chosen<P: Patterns>(
     ensures silent { P.asked patterns.new ≡ P.asked patterns.old }
     ensures tried { HasTried (P.course patterns.old) (P.course patterns.new) }
     ensures value { IfOk result (λ b. b ≡ is_chosen (world scene.now (P.says patterns.old)) (map (λ c. P.made_from c) compiled.now) found.now
-        (stage_of stage.now) (cells_of row.now)) }
+        (stage_of stage.now) row.now) }
 {
     if holds(scene, stage.entity, row, patterns, compiled, found, steps)? {
         is_seen(scene, stage.entity, stage.state, row)
@@ -53,7 +53,7 @@ fn is_chosen<P: Patterns>(
     }
 }
 
-// Appends the row if the stage chooses it.
+// Makes the row and appends it, if the stage chooses it.
 fn choose<P: Patterns>(
     scene: &Scene,
     patterns: &mut P,
@@ -61,7 +61,7 @@ fn choose<P: Patterns>(
     found: &[Known],
     stage: &Stage,
     steps: &[Ready],
-    row: Cells,
+    row: View<'_>,
     chosen: &mut Lines,
 ) -> Result<(), AllocError>
     requires { steps.now ≡ stage.now.steps }
@@ -70,18 +70,10 @@ fn choose<P: Patterns>(
     ensures silent { P.asked patterns.new ≡ P.asked patterns.old }
     ensures tried { HasTried (P.course patterns.old) (P.course patterns.new) }
     ensures value { OnOk result (chosen.new ≡ chosen.old ++ filter
-        (is_chosen (world scene.now (P.says patterns.old)) (map (λ c. P.made_from c) compiled.now) found.now (stage_of stage.now)) (row ∷ [])) }
+        (is_chosen (world scene.now (P.says patterns.old)) (map (λ c. P.made_from c) compiled.now) found.now (stage_of stage.now)) (row.entry ∷ [])) }
 {
-    if is_chosen(
-        scene,
-        patterns,
-        compiled,
-        found,
-        stage,
-        steps,
-        row.as_slice(),
-    )? {
-        chosen.push(row)?;
+    if is_chosen(scene, patterns, compiled, found, stage, steps, &row)? {
+        chosen.push(row.into_cells(scene.alloc)?)?;
     }
     Ok(())
 }
@@ -114,24 +106,15 @@ fn choose_at<L: Ledger, P: Patterns>(
     ensures value { OnOk result (chosen.new ≡ chosen.old ++ filter (is_chosen (world_of tables.now (P.says patterns.old))
         (map (λ c. P.made_from c) compiled.now) found.now (stage_of stage.now)) (slice_one (table_rows entity tables.now) place)) }
 {
-    let row = tables.row(entity, place, walk)?;
-    let facts = facts_for(
-        alloc,
-        patterns.keys(),
-        tables,
-        entity,
-        row.cells.as_slice(),
-        names,
-        walk,
-    )?;
+    let row = view_at(alloc, tables, entity, place, walk)?;
+    let keys = patterns.keys();
+    let facts = facts_for(alloc, keys, tables, entity, &row, names, walk)?;
     let scene = Scene {
         alloc,
         tables,
         facts: &facts,
     };
-    choose(
-        &scene, patterns, compiled, found, stage, steps, row.cells, chosen,
-    )
+    choose(&scene, patterns, compiled, found, stage, steps, row, chosen)
 }
 
 // The chosen rows among those at the places. Each place is read once.

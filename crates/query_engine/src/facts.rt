@@ -1,17 +1,17 @@
 //! Reads the facts of a node that the filter of a level names, one row each.
 ghost use Rattle.std.specs.Prelude.{◌≡◌, ◌<◌, ◌≤◌, ◌+◌, ◌++◌, length, Some, IfOk, OnOk};
-ghost use Rattle.fleet_tables.specs.fleet_rows.Cell.{cells_of};
 ghost use Rattle.fleet_tables.specs.fleet_rows.declared.row.Entity.TheVariants as entities;
 ghost use Rattle.fleet_tables.specs.table_machine.Rows.{table_rows};
 ghost use Rattle.query_plan.specs.means_spec.Cells.{node_in};
 ghost use Rattle.query_reach.specs.Seen.{texts_seen};
 ghost use Rattle.query_engine.specs.Fetched.{fact_row, fetched, slice_one};
 
-use fleet_tables::fleet_rows::{Cell, Entity};
+use fleet_tables::fleet_rows::Entity;
 use fleet_tables::{Steps, Tables};
 use paging_text::Lines;
 use pattern_port::Keys;
-use query_rows::{FactRows, fact_rows, node_in};
+use query_rows::{FactRows, fact_rows, node_seen};
+use row_views::View;
 use same_text::json_tree::Text;
 use std::alloc::{AllocError, Global};
 use std::sync::ledger::Ledger;
@@ -73,15 +73,15 @@ pub(crate) fn facts_for<L: Ledger>(
     keys: Keys,
     tables: &Tables,
     entity: Entity,
-    row: &[Cell],
+    row: &View<'_>,
     names: &[&Text],
     walk: &mut Steps<L>,
 ) -> Result<FactRows, AllocError>
     ensures cost { walk.new ≤ walk.old + length names.now }
     ensures value { IfOk result (λ facts. facts
-        ≡ fetched (node_in (Some entity) (cells_of row.now)) (table_rows entities.Facts tables.now) (texts_seen names.now)) }
+        ≡ fetched (node_in (Some entity) row.now) (table_rows entities.Facts tables.now) (texts_seen names.now)) }
 {
-    let node = node_in(Some(entity), row);
+    let node = node_seen(Some(entity), row);
     let facts = read_facts(alloc, tables, node, names, walk)?;
     fact_rows(alloc, keys, facts)
 }

@@ -13,7 +13,8 @@ use crate::sums::{Sum, sum_cell, sum_of};
 use fleet_tables::fleet_rows::{Cell, Entity};
 use itoa::Buffer;
 use query_plan::query_spec::Function;
-use query_rows::{cell_in, copy_or_null};
+use query_rows::copy_or_null;
+use row_views::cell_in;
 use same_text::json_tree::{Json, Number, Text};
 use std::alloc::{AllocError, Global};
 

@@ -11,7 +11,8 @@ use fleet_tables::fleet_rows::{Cell, Cells, Entity, Names};
 use paging_text::Lines;
 use query_plan::ast_tree::output_name;
 use query_plan::query_spec::{Selected, Selection};
-use query_rows::{cell_in, column_names, copy_or_null};
+use query_rows::{column_names, copy_or_null};
+use row_views::cell_in;
 use same_text::json_tree::Text;
 use std::alloc::{AllocError, Global};
 

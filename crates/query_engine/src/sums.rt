@@ -10,7 +10,7 @@ ghost use Rattle.query_rows.specs.Referred.{rows_of};
 
 use fleet_tables::fleet_rows::{Cell, Entity};
 use itoa::Buffer;
-use query_rows::cell_in;
+use row_views::cell_in;
 use same_text::json_tree::{Json, Number, Text};
 use std::alloc::{AllocError, Global};
 

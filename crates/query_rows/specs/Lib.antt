@@ -1,5 +1,4 @@
 pub mod Tables
-pub mod Seen
 pub mod Scenes
 pub mod Referred
 pub mod Marked

@@ -9,14 +9,13 @@ ghost use Rattle.same_text.specs.text_spec.Json.{string};
 ghost use Rattle.fleet_tables.specs.fleet_rows.Cell.{cell_of, plain, stamp};
 ghost use Rattle.query_plan.specs.means_spec.Cells.{scalar_value, moment_of, equals, order_of, meets, compares, has_tag, has_state, same_cell};
 ghost use Rattle.query_plan.specs.means_spec.Cells.{same_cells, is_null_cell};
-ghost use Rattle.paging_text.specs.Shown.{cell_or_null};
 ghost use Rattle.query_plan.specs.query_spec.declared.parts.Scalar.TheVariants as literals;
-ghost use Rattle.query_rows.specs.Seen.{seen_value};
+ghost use Rattle.row_views.specs.Seen.{seen_value};
 
-use crate::seen::Seen;
 use fleet_tables::fleet_rows::Cell;
 use fleet_tables::stamp_time::{Moment, read_stamp};
 use query_plan::query_spec::{Op, Scalar};
+use row_views::Seen;
 use same_text::json_tree::{Json, Text, same};
 use std::cmp::Ordering;
 
@@ -53,6 +52,15 @@ fn is_value(json: &Json, literal: &Scalar) -> bool
     }
 }
 
+fn is_text(text: &Text, literal: &Scalar) -> bool
+    ensures { result ≡ same (string text.now) (scalar_value literal.now) }
+{
+    match literal {
+        Scalar::Text(other) => text.as_str() == other.as_str(),
+        _ => false,
+    }
+}
+
 /// Whether the value equals the literal: the same value or the same moment.
 pub(crate) fn equals(seen: &Seen<'_>, literal: &Scalar) -> bool
     ensures { result ≡ equals (seen_value seen.now) literal.now }
@@ -61,6 +69,7 @@ pub(crate) fn equals(seen: &Seen<'_>, literal: &Scalar) -> bool
         Seen::Cell(Cell::Stamp(moment)) => is_moment(*moment, literal),
         Seen::Cell(Cell::Plain(json)) => is_value(json, literal),
         Seen::Value(json) => is_value(json, literal),
+        Seen::Text(text) => is_text(text, literal),
         Seen::Null => false,
     }
 }
@@ -90,6 +99,7 @@ fn order_of(seen: &Seen<'_>, literal: &Scalar) -> Option<Ordering>
         Seen::Cell(Cell::Stamp(moment)) => moment_order(*moment, literal),
         Seen::Cell(Cell::Plain(json)) => value_order(json, literal),
         Seen::Value(json) => value_order(json, literal),
+        Seen::Text(_) => None,
         Seen::Null => None,
     }
 }
@@ -139,12 +149,13 @@ fn has_text(items: &[Json], text: &Text) -> bool
 }
 
 /// Whether some tag is this text.
-pub(crate) fn has_tag(literal: &Scalar, cell: Option<&Cell>) -> bool
-    ensures { result ≡ has_tag literal.now (cell_or_null cell.entry) }
+pub(crate) fn has_tag(literal: &Scalar, seen: &Seen<'_>) -> bool
+    ensures { result ≡ has_tag literal.now (seen_value seen.now) }
 {
     match literal {
-        Scalar::Text(text) => match cell {
-            Some(Cell::Plain(json)) => is_tag(json, text),
+        Scalar::Text(text) => match seen {
+            Seen::Cell(Cell::Plain(json)) => is_tag(json, text),
+            Seen::Value(json) => is_tag(json, text),
             _ => false,
         },
         _ => false,
@@ -204,6 +215,15 @@ fn same_value(json: &Json, cell: &Cell) -> bool
     }
 }
 
+fn same_as_text(text: &Text, cell: &Cell) -> bool
+    ensures { result ≡ same_cell (plain (string text.now)) (cell_of cell.now) }
+{
+    match cell {
+        Cell::Plain(Json::Text(other)) => text.as_str() == other.as_str(),
+        _ => false,
+    }
+}
+
 /// Whether the value is the same as a cell.
 pub fn same_cell(seen: &Seen<'_>, cell: &Cell) -> bool
     ensures { result ≡ same_cell (seen_value seen.now) (cell_of cell.now) }
@@ -212,6 +232,7 @@ pub fn same_cell(seen: &Seen<'_>, cell: &Cell) -> bool
         Seen::Cell(Cell::Stamp(moment)) => same_moment(*moment, cell),
         Seen::Cell(Cell::Plain(json)) => same_value(json, cell),
         Seen::Value(json) => same_value(json, cell),
+        Seen::Text(text) => same_as_text(text, cell),
         Seen::Null => match cell {
             Cell::Plain(Json::Null) => true,
             _ => false,

@@ -24,7 +24,7 @@ mod scene;
 mod seen;
 mod tuples;
 
-pub use cells::{cell_in, column_names, copy_or_null, node_in};
+pub use cells::{column_names, copy_or_null, node_in, node_seen};
 pub use compare::same_cell;
 pub use index::{Index, PlaceList};
 pub use known::{FactRows, Known, Lookup, fact_rows, known_of};
@@ -33,4 +33,3 @@ pub use marks::{Marked, with_marks};
 pub use parts::{Part, parts_of, put};
 pub use run::{holds, is_seen};
 pub use scene::Scene;
-pub use seen::{Seen, seen_of};

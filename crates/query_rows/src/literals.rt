@@ -18,16 +18,16 @@ ghost use Rattle.query_plan.specs.Made.{step_of, steps_of};
 ghost use Rattle.query_rows.specs.Indexed.{holds_place, passes_at};
 ghost use Rattle.query_rows.specs.Marked.{cell_text};
 ghost use Rattle.query_rows.specs.Ready.{AreLiteralsOf};
-ghost use Rattle.query_rows.specs.Seen.{seen_value};
+ghost use Rattle.row_views.specs.Seen.{seen_value};
 
 use crate::compare::{equals, moment_of};
 use crate::index::{Index, note, places_under};
 use crate::marks::{append_moment, append_seen};
-use crate::seen::Seen;
 use fleet_tables::stamp_time::Moment;
 use pattern_port::Keys;
 use query_plan::Step;
 use query_plan::query_spec::{Literal, Scalar};
+use row_views::Seen;
 use same_text::append_same;
 use same_text::json_tree::{Json, Number, Text};
 use std::alloc::{AllocError, Global};

@@ -10,18 +10,18 @@ ghost use Rattle.std.specs.Fmt.{signed_decimal};
 ghost use Rattle.fleet_tables.specs.fleet_rows.Cell.{cells_of};
 ghost use Rattle.query_plan.specs.means_spec.Groups.{key_of};
 ghost use Rattle.paging_text.specs.Shown.{cell_or_null};
-ghost use Rattle.query_rows.specs.Seen.{seen_value};
+ghost use Rattle.row_views.specs.Seen.{seen_value};
 ghost use Rattle.query_rows.specs.Marked.{cell_text, key_text, number_of, rows_marked, AreMarked};
 
-use crate::cells::cell_in;
-use crate::seen::Seen;
 use fleet_tables::fleet_rows::{Cell, Cells, Entity};
 use fleet_tables::stamp_time::Moment;
 use indexmap::IndexSet;
 use itoa::Buffer;
 use pattern_port::Keys;
 use query_plan::query_spec::Name;
+use row_views::{Seen, cell_in};
 use same_text::append_same;
+use same_text::json_tree::append_quoted;
 use std::alloc::{AllocError, Global};
 
 /// A row and its mark.
@@ -65,6 +65,7 @@ pub(crate) fn append_seen(
     match seen {
         Seen::Cell(cell) => append_cell(alloc, out, Some(*cell)),
         Seen::Value(json) => append_same(alloc, out, json),
+        Seen::Text(text) => append_quoted(out, text.as_str()),
         Seen::Null => out.extend_from_slice(b"null"),
     }
 }

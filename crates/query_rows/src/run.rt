@@ -1,9 +1,8 @@
 //! Runs the steps of a stage on a row.
 ghost use Rattle.std.specs.Prelude.{◌≡◌, ℕ, List, [], Bool, false, map, reverse, IfOk, OnOk, slice_get};
 ghost use Rattle.std.specs.List.{list_any};
-ghost use Rattle.std.specs.Option.{option_copied, option_map_or};
+ghost use Rattle.std.specs.Option.{option_map_or};
 ghost use Rattle.std.specs.Str.{bytes_eq};
-ghost use Rattle.fleet_tables.specs.fleet_rows.Cell.{cells_of};
 ghost use Rattle.query_plan.specs.means_spec.Cells.{field_cell, equal_cells, text_in, node_in};
 ghost use Rattle.query_plan.specs.means_spec.Means.{is_seen};
 ghost use Rattle.query_plan.specs.Plan.{act, run, top};
@@ -11,32 +10,19 @@ ghost use Rattle.query_plan.specs.Made.{step_of};
 ghost use Rattle.query_rows.specs.Tries.{HasTried};
 ghost use Rattle.query_rows.specs.Ready.{IsReady};
 ghost use Rattle.query_rows.specs.Scenes.{world, seen_cell};
-ghost use Rattle.query_rows.specs.Seen.{seen_value};
 
-use crate::cells::is_inactive;
+use crate::cells::{is_inactive, text_seen};
 use crate::index::Index;
 use crate::known::Known;
 use crate::literals::Ready;
 use crate::scene::{Scene, compares, is_listed, seen_in, tests_null};
-use crate::seen::Seen;
 use crate::tuples::{is_among, shares_node};
-use fleet_tables::fleet_rows::{Cell, Entity};
+use fleet_tables::fleet_rows::Entity;
 use pattern_port::Patterns;
 use query_plan::Step;
 use query_plan::query_spec::Field;
-use same_text::json_tree::{Json, Text};
+use row_views::View;
 use std::alloc::AllocError;
-
-// The text of the value that a field names, if it is one.
-fn text_of<'a>(seen: Seen<'a>) -> Option<&'a Text>
-    ensures { option_copied result ≡ text_in (seen_value seen.entry) }
-{
-    match seen {
-        Seen::Cell(Cell::Plain(Json::Text(text))) => Some(text),
-        Seen::Value(Json::Text(text)) => Some(text),
-        _ => None,
-    }
-}
 
 // Whether the text matches the pattern with this number.
 #[tactic(auto, using(crate::proofs::Gets::get_map, crate::proofs::TryLaws::tried_nothing, crate::proofs::TryLaws::tried_one))]
@@ -63,7 +49,7 @@ fn is_match<P: Patterns>(
 fn fits_seen<P: Patterns>(
     scene: &Scene,
     entity: Option<Entity>,
-    row: &[Cell],
+    row: &View<'_>,
     patterns: &mut P,
     compiled: &[P::Compiled],
     field: &Field,
@@ -74,9 +60,9 @@ fn fits_seen<P: Patterns>(
     ensures silent { P.asked patterns.new ≡ P.asked patterns.old }
     ensures tried { HasTried (P.course patterns.old) (P.course patterns.new) }
     ensures value { IfOk result (λ b. b ≡ option_map_or (λ p. option_map_or (P.says patterns.old p)
-        (text_in (seen_cell scene.now entity (cells_of row.now) field.now)) false) (slice_get (map (λ c. P.made_from c) compiled.now) at) false) }
+        (text_in (seen_cell scene.now entity row.now field.now)) false) (slice_get (map (λ c. P.made_from c) compiled.now) at) false) }
 {
-    match text_of(seen_in(scene, entity, field, row)) {
+    match text_seen(seen_in(scene, entity, field, row)) {
         Some(text) => is_match(patterns, compiled, at, text.as_str()),
         None => Ok(false),
     }
@@ -86,7 +72,7 @@ fn fits_seen<P: Patterns>(
 fn fits<P: Patterns>(
     scene: &Scene,
     entity: Option<Entity>,
-    row: &[Cell],
+    row: &View<'_>,
     patterns: &mut P,
     compiled: &[P::Compiled],
     field: &Field,
@@ -97,7 +83,7 @@ fn fits<P: Patterns>(
     ensures silent { P.asked patterns.new ≡ P.asked patterns.old }
     ensures tried { HasTried (P.course patterns.old) (P.course patterns.new) }
     ensures value { IfOk result (λ b. b ≡ option_map_or (λ p. option_map_or (P.says patterns.old p)
-        (text_in (field_cell (world scene.now (P.says patterns.old)) entity field.now (cells_of row.now))) false)
+        (text_in (field_cell (world scene.now (P.says patterns.old)) entity field.now row.now)) false)
         (slice_get (map (λ c. P.made_from c) compiled.now) at) false) }
 {
     fits_seen(scene, entity, row, patterns, compiled, field, at)
@@ -106,12 +92,12 @@ fn fits<P: Patterns>(
 fn selects_seen(
     scene: &Scene,
     entity: Option<Entity>,
-    row: &[Cell],
+    row: &View<'_>,
     fields: &[Field],
     found: &[Known],
     at: usize,
 ) -> Result<bool, AllocError>
-    ensures { IfOk result (λ b. b ≡ option_map_or (list_any (equal_cells (map (seen_cell scene.now entity (cells_of row.now)) fields.now)))
+    ensures { IfOk result (λ b. b ≡ option_map_or (list_any (equal_cells (map (seen_cell scene.now entity row.now) fields.now)))
         (slice_get found.now at) false) }
 {
     match found.get(at) {
@@ -123,13 +109,13 @@ fn selects_seen(
 fn selects(
     scene: &Scene,
     entity: Option<Entity>,
-    row: &[Cell],
+    row: &View<'_>,
     fields: &[Field],
     found: &[Known],
     at: usize,
 ) -> Result<bool, AllocError>
     ensures { IfOk result (λ b. (says : List ℕ → List ℕ → Bool)
-        → b ≡ option_map_or (list_any (equal_cells (map (λ f. field_cell (world scene.now says) entity f (cells_of row.now)) fields.now)))
+        → b ≡ option_map_or (list_any (equal_cells (map (λ f. field_cell (world scene.now says) entity f row.now) fields.now)))
         (slice_get found.now at) false) }
 {
     selects_seen(scene, entity, row, fields, found, at)
@@ -140,9 +126,9 @@ fn shares(
     found: &[Known],
     at: usize,
     entity: Option<Entity>,
-    row: &[Cell],
+    row: &View<'_>,
 ) -> bool
-    ensures { result ≡ option_map_or (list_any (λ x. bytes_eq (node_in other x) (node_in entity (cells_of row.now)))) (slice_get found.now at) false }
+    ensures { result ≡ option_map_or (list_any (λ x. bytes_eq (node_in other x) (node_in entity row.now))) (slice_get found.now at) false }
 {
     match found.get(at) {
         Some(known) => shares_node(other, known, entity, row),
@@ -155,7 +141,7 @@ fn shares(
 fn act_on<P: Patterns>(
     scene: &Scene,
     entity: Option<Entity>,
-    row: &[Cell],
+    row: &View<'_>,
     patterns: &mut P,
     compiled: &[P::Compiled],
     found: &[Known],
@@ -169,7 +155,7 @@ fn act_on<P: Patterns>(
     ensures silent { P.asked patterns.new ≡ P.asked patterns.old }
     ensures tried { HasTried (P.course patterns.old) (P.course patterns.new) }
     ensures value { OnOk result (reverse stack.new.items ≡ act (world scene.now (P.says patterns.old))
-        (map (λ c. P.made_from c) compiled.now) found.now entity (cells_of row.now) (step_of step.now) (reverse stack.old.items)) }
+        (map (λ c. P.made_from c) compiled.now) found.now entity row.now (step_of step.now) (reverse stack.old.items)) }
 {
     match step {
         Step::Compares(op, field, literal) => {
@@ -218,7 +204,7 @@ fn act_on<P: Patterns>(
 fn step_on<P: Patterns>(
     scene: &Scene,
     entity: Option<Entity>,
-    row: &[Cell],
+    row: &View<'_>,
     patterns: &mut P,
     compiled: &[P::Compiled],
     found: &[Known],
@@ -230,7 +216,7 @@ fn step_on<P: Patterns>(
     ensures silent { P.asked patterns.new ≡ P.asked patterns.old }
     ensures tried { HasTried (P.course patterns.old) (P.course patterns.new) }
     ensures value { OnOk result (reverse stack.new.items ≡ act (world scene.now (P.says patterns.old))
-        (map (λ c. P.made_from c) compiled.now) found.now entity (cells_of row.now) ready.now (reverse stack.old.items)) }
+        (map (λ c. P.made_from c) compiled.now) found.now entity row.now ready.now (reverse stack.old.items)) }
 {
     let index = &ready.index;
     act_on(
@@ -243,7 +229,7 @@ fn step_on<P: Patterns>(
 pub fn holds<P: Patterns>(
     scene: &Scene,
     entity: Option<Entity>,
-    row: &[Cell],
+    row: &View<'_>,
     patterns: &mut P,
     compiled: &[P::Compiled],
     found: &[Known],
@@ -254,7 +240,7 @@ pub fn holds<P: Patterns>(
     ensures silent { P.asked patterns.new ≡ P.asked patterns.old }
     ensures tried { HasTried (P.course patterns.old) (P.course patterns.new) }
     ensures value { IfOk result (λ b. b ≡ top (run (world scene.now (P.says patterns.old)) (map (λ c. P.made_from c) compiled.now) found.now entity
-        (cells_of row.now) steps.now [])) }
+        row.now steps.now [])) }
 {
     let mut stack = Vec::new(scene.alloc);
     for ready in steps {
@@ -273,9 +259,9 @@ pub fn is_seen(
     scene: &Scene,
     entity: Option<Entity>,
     state: bool,
-    row: &[Cell],
+    row: &View<'_>,
 ) -> Result<bool, AllocError>
-    ensures { IfOk result (λ b. (says : List ℕ → List ℕ → Bool) → b ≡ is_seen (world scene.now says) entity state (cells_of row.now)) }
+    ensures { IfOk result (λ b. (says : List ℕ → List ℕ → Bool) → b ≡ is_seen (world scene.now says) entity state row.now) }
 {
     if state {
         return Ok(true);

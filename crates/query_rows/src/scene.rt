@@ -1,23 +1,23 @@
 //! Evaluates single steps of a filter on a row.
 ghost use Rattle.std.specs.Prelude.{◌≡◌, ℕ, List, Bool, not, map, IfOk, IfSome, if◌then◌else◌};
 ghost use Rattle.std.specs.List.{list_any};
-ghost use Rattle.fleet_tables.specs.fleet_rows.Cell.{cells_of};
 ghost use Rattle.query_plan.specs.means_spec.Cells.{field_cell, field_compares, compares, is_null_cell, equals};
 ghost use Rattle.query_plan.specs.means_spec.Means.{is_listed};
 ghost use Rattle.query_plan.specs.query_spec.declared.parts.Literal.{Literal};
 ghost use Rattle.query_rows.specs.Ready.{AreLiteralsOf};
 ghost use Rattle.query_rows.specs.Scenes.{world, seen_cell, equals_some};
-ghost use Rattle.query_rows.specs.Seen.{seen_value};
+ghost use Rattle.row_views.specs.Seen.{seen_value};
 
-use crate::cells::{cell_in, is_inactive};
+use crate::cells::is_inactive;
 use crate::compare::{compares as compared, equals, has_state, has_tag, is_null};
 use crate::index::Index;
 use crate::known::FactRows;
 use crate::literals::equals_known;
-use crate::seen::{Seen, field_cell};
+use crate::seen::field_cell;
 use fleet_tables::Tables;
-use fleet_tables::fleet_rows::{Cell, Entity};
+use fleet_tables::fleet_rows::Entity;
 use query_plan::query_spec::{Field, Literal, Op, Scalar};
+use row_views::{Seen, View};
 use std::alloc::{AllocError, Global};
 
 /// The tables, and the rows of facts if a field may name a fact.
@@ -34,9 +34,9 @@ pub(crate) fn seen_in<'a>(
     scene: &Scene<'a>,
     entity: Option<Entity>,
     field: &Field,
-    row: &'a [Cell],
+    row: &'a View<'_>,
 ) -> Seen<'a>
-    ensures { seen_value result ≡ seen_cell scene.now entity (cells_of row.now) field.now }
+    ensures { seen_value result ≡ seen_cell scene.now entity row.now field.now }
 {
     field_cell(scene.facts, entity, field, row)
 }
@@ -48,13 +48,13 @@ pub(crate) fn compares(
     op: Op,
     field: &Field,
     literal: &Scalar,
-    row: &[Cell],
+    row: &View<'_>,
 ) -> Result<bool, AllocError>
     ensures { IfOk result (λ holds. (says : List ℕ → List ℕ → Bool)
-        → holds ≡ field_compares (world scene.now says) entity op field.now literal.now (cells_of row.now)) }
+        → holds ≡ field_compares (world scene.now says) entity op field.now literal.now row.now) }
 {
     match field {
-        Field::Tag(_) => Ok(has_tag(literal, cell_in(entity, "tags", row))),
+        Field::Tag(_) => Ok(has_tag(literal, &row.seen(entity, "tags"))),
         Field::NodeState(_) => {
             let inactive = is_inactive(scene.alloc, scene.tables, entity, row)?;
             Ok(has_state(inactive, literal))
@@ -72,9 +72,9 @@ fn compares_cell(
     op: Op,
     field: &Field,
     literal: &Scalar,
-    row: &[Cell],
+    row: &View<'_>,
 ) -> bool
-    ensures { result ≡ compares op (seen_cell scene.now entity (cells_of row.now) field.now) literal.now }
+    ensures { result ≡ compares op (seen_cell scene.now entity row.now field.now) literal.now }
 {
     compared(op, &seen_in(scene, entity, field, row), literal)
 }
@@ -85,11 +85,11 @@ pub(crate) fn tests_null(
     entity: Option<Entity>,
     field: &Field,
     value: bool,
-    row: &[Cell],
+    row: &View<'_>,
 ) -> bool
     ensures { (says : List ℕ → List ℕ → Bool)
-        → result ≡ (if value then is_null_cell (field_cell (world scene.now says) entity field.now (cells_of row.now))
-        else not (is_null_cell (field_cell (world scene.now says) entity field.now (cells_of row.now)))) }
+        → result ≡ (if value then is_null_cell (field_cell (world scene.now says) entity field.now row.now)
+        else not (is_null_cell (field_cell (world scene.now says) entity field.now row.now))) }
 {
     null_as(value, &seen_in(scene, entity, field, row))
 }
@@ -108,11 +108,11 @@ pub(crate) fn is_listed(
     fields: &[Field],
     literals: &[Literal],
     index: &Option<Index>,
-    row: &[Cell],
+    row: &View<'_>,
 ) -> Result<bool, AllocError>
     requires { IfSome index.now (AreLiteralsOf literals.now) }
     ensures { IfOk result (λ b. (says : List ℕ → List ℕ → Bool)
-        → b ≡ is_listed (world scene.now says) entity fields.now literals.now (cells_of row.now)) }
+        → b ≡ is_listed (world scene.now says) entity fields.now literals.now row.now) }
 {
     one_of(scene, entity, fields, literals, index, row)
 }
@@ -123,10 +123,10 @@ fn one_of(
     fields: &[Field],
     literals: &[Literal],
     index: &Option<Index>,
-    row: &[Cell],
+    row: &View<'_>,
 ) -> Result<bool, AllocError>
     requires { IfSome index.now (AreLiteralsOf literals.now) }
-    ensures { IfOk result (λ b. b ≡ equals_some (map (seen_cell scene.now entity (cells_of row.now)) fields.now) literals.now) }
+    ensures { IfOk result (λ b. b ≡ equals_some (map (seen_cell scene.now entity row.now) fields.now) literals.now) }
 {
     match fields {
         [field] => {

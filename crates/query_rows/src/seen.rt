@@ -11,31 +11,15 @@ ghost use Rattle.query_plan.specs.means_spec.World.{World};
 ghost use Rattle.paging_text.specs.Shown.{cell_or_null};
 ghost use Rattle.query_rows.specs.Indexed.{passes_at};
 ghost use Rattle.query_rows.specs.Known.{AreByNode};
-ghost use Rattle.query_rows.specs.Seen.{seen_value};
+ghost use Rattle.row_views.specs.Seen.{seen_value};
 
-use crate::cells::{cell_in, node_in, text_in};
+use crate::cells::{node_seen, text_in};
 use crate::index::{Index, places_under};
 use crate::known::FactRows;
 use fleet_tables::fleet_rows::{Cell, Cells, Entity};
 use query_plan::query_spec::Field;
+use row_views::{Seen, View, cell_in, seen_of};
 use same_text::json_tree::{Json, Members};
-
-/// A cell of a row, a value within a cell, or null.
-#[derive(Drop)]
-pub enum Seen<'a> {
-    Cell(&'a Cell),
-    Value(&'a Json),
-    Null,
-}
-
-pub fn seen_of(cell: Option<&Cell>) -> Seen<'_>
-    ensures { seen_value result ≡ cell_or_null cell.entry }
-{
-    match cell {
-        Some(cell) => Seen::Cell(cell),
-        None => Seen::Null,
-    }
-}
 
 fn member<'a>(name: &str, members: &'a Members) -> Seen<'a>
     ensures { seen_value result ≡ plain (unwrap_or (find_member name.now members.now) null) }
@@ -49,12 +33,13 @@ fn member<'a>(name: &str, members: &'a Members) -> Seen<'a>
     Seen::Null
 }
 
-// The value of the parameter, if the cell holds an object with it.
-fn member_in<'a>(name: &str, cell: Option<&'a Cell>) -> Seen<'a>
-    ensures { seen_value result ≡ member_in name.now (cell_or_null cell.entry) }
+// The value of the parameter, if the value is an object with it.
+fn member_in<'a>(name: &str, seen: Seen<'a>) -> Seen<'a>
+    ensures { seen_value result ≡ member_in name.now (seen_value seen.entry) }
 {
-    match cell {
-        Some(Cell::Plain(json)) => member_of(name, json),
+    match seen {
+        Seen::Cell(Cell::Plain(json)) => member_of(name, json),
+        Seen::Value(json) => member_of(name, json),
         _ => Seen::Null,
     }
 }
@@ -142,16 +127,14 @@ pub(crate) fn field_cell<'a>(
     facts: &'a FactRows,
     entity: Option<Entity>,
     field: &Field,
-    row: &'a [Cell],
+    row: &'a View<'_>,
 ) -> Seen<'a>
-    ensures { (w : World) → w.rows entities.Facts ≡ facts.now → seen_value result ≡ field_cell w entity field.now (cells_of row.now) }
+    ensures { (w : World) → w.rows entities.Facts ≡ facts.now → seen_value result ≡ field_cell w entity field.now row.now }
 {
     match field {
-        Field::Column(name) => seen_of(cell_in(entity, name.text.as_str(), row)),
-        Field::Parameter(name) => {
-            member_in(name.text.as_str(), cell_in(entity, "parameters", row))
-        }
-        Field::Fact(name) => seen_of(fact_of(facts, node_in(entity, row), name.text.as_str())),
+        Field::Column(name) => row.seen(entity, name.text.as_str()),
+        Field::Parameter(name) => { member_in(name.text.as_str(), row.seen(entity, "parameters")) }
+        Field::Fact(name) => seen_of(fact_of(facts, node_seen(entity, row), name.text.as_str())),
         Field::Tag(_) => Seen::Null,
         Field::NodeState(_) => Seen::Null,
     }

@@ -8,7 +8,7 @@ ghost use Rattle.query_rows.specs.Indexed.{IsIndexOf, passes_at};
 ghost use Rattle.query_rows.specs.Marked.{cell_text, key_text};
 ghost use Rattle.query_rows.specs.Scenes.{seen_cell};
 
-use crate::cells::node_in;
+use crate::cells::{node_in, node_seen};
 use crate::compare::{is_null, same_cell};
 use crate::index::{Index, places_under};
 use crate::known::{Known, Lookup};
@@ -16,22 +16,29 @@ use crate::marks::append_seen;
 use crate::scene::{Scene, seen_in};
 use fleet_tables::fleet_rows::{Cell, Cells, Entity};
 use query_plan::query_spec::Field;
+use row_views::View;
 use std::alloc::AllocError;
 
-fn is_null_at(scene: &Scene, entity: Option<Entity>, field: &Field, row: &[Cell]) -> bool
-    ensures { result ≡ is_null_cell (seen_cell scene.now entity (cells_of row.now) field.now) }
+fn is_null_at(scene: &Scene, entity: Option<Entity>, field: &Field, row: &View<'_>) -> bool
+    ensures { result ≡ is_null_cell (seen_cell scene.now entity row.now field.now) }
 {
     is_null(&seen_in(scene, entity, field, row))
 }
 
-fn same_at(scene: &Scene, entity: Option<Entity>, field: &Field, row: &[Cell], cell: &Cell) -> bool
-    ensures { result ≡ same_cell (seen_cell scene.now entity (cells_of row.now) field.now) (cell_of cell.now) }
+fn same_at(
+    scene: &Scene,
+    entity: Option<Entity>,
+    field: &Field,
+    row: &View<'_>,
+    cell: &Cell,
+) -> bool
+    ensures { result ≡ same_cell (seen_cell scene.now entity row.now field.now) (cell_of cell.now) }
 {
     same_cell(&seen_in(scene, entity, field, row), cell)
 }
 
-fn has_null(scene: &Scene, entity: Option<Entity>, fields: &[Field], row: &[Cell]) -> bool
-    ensures { result ≡ list_any is_null_cell (map (seen_cell scene.now entity (cells_of row.now)) fields.now) }
+fn has_null(scene: &Scene, entity: Option<Entity>, fields: &[Field], row: &View<'_>) -> bool
+    ensures { result ≡ list_any is_null_cell (map (seen_cell scene.now entity row.now) fields.now) }
 {
     for field in fields {
         if is_null_at(scene, entity, field, row) {
@@ -46,10 +53,10 @@ fn is_row(
     scene: &Scene,
     entity: Option<Entity>,
     fields: &[Field],
-    row: &[Cell],
+    row: &View<'_>,
     other: &[Cell],
 ) -> bool
-    ensures { result ≡ same_cells (map (seen_cell scene.now entity (cells_of row.now)) fields.now) (cells_of other.now) }
+    ensures { result ≡ same_cells (map (seen_cell scene.now entity row.now) fields.now) (cells_of other.now) }
 {
     match fields {
         [field, fields @ ..] => match other {
@@ -67,10 +74,10 @@ fn is_some_row(
     scene: &Scene,
     entity: Option<Entity>,
     fields: &[Field],
-    row: &[Cell],
+    row: &View<'_>,
     rows: &[Cells],
 ) -> bool
-    ensures { result ≡ list_any (same_cells (map (seen_cell scene.now entity (cells_of row.now)) fields.now)) rows.now }
+    ensures { result ≡ list_any (same_cells (map (seen_cell scene.now entity row.now) fields.now)) rows.now }
 {
     for other in rows {
         if is_row(scene, entity, fields, row, other.as_slice()) {
@@ -85,11 +92,11 @@ fn is_row_there(
     scene: &Scene,
     entity: Option<Entity>,
     fields: &[Field],
-    row: &[Cell],
+    row: &View<'_>,
     rows: &[Cells],
     place: usize,
 ) -> bool
-    ensures { result ≡ passes_at (same_cells (map (seen_cell scene.now entity (cells_of row.now)) fields.now)) rows.now place }
+    ensures { result ≡ passes_at (same_cells (map (seen_cell scene.now entity row.now) fields.now)) rows.now place }
 {
     match rows.get(place) {
         Some(other) => is_row(scene, entity, fields, row, other.as_slice()),
@@ -102,11 +109,11 @@ fn is_row_at(
     scene: &Scene,
     entity: Option<Entity>,
     fields: &[Field],
-    row: &[Cell],
+    row: &View<'_>,
     rows: &[Cells],
     places: &[usize],
 ) -> bool
-    ensures { result ≡ list_any (passes_at (same_cells (map (seen_cell scene.now entity (cells_of row.now)) fields.now)) rows.now) places.now }
+    ensures { result ≡ list_any (passes_at (same_cells (map (seen_cell scene.now entity row.now) fields.now)) rows.now) places.now }
 {
     for place in places {
         if is_row_there(scene, entity, fields, row, rows, *place) {
@@ -121,9 +128,9 @@ fn append_at(
     scene: &Scene,
     entity: Option<Entity>,
     field: &Field,
-    row: &[Cell],
+    row: &View<'_>,
 ) -> Result<(), AllocError>
-    ensures { OnOk result (out.new.items ≡ out.old.items ++ cell_text (seen_cell scene.now entity (cells_of row.now) field.now)) }
+    ensures { OnOk result (out.new.items ≡ out.old.items ++ cell_text (seen_cell scene.now entity row.now field.now)) }
 {
     append_seen(scene.alloc, out, &seen_in(scene, entity, field, row))
 }
@@ -133,9 +140,9 @@ fn text_of_fields(
     scene: &Scene,
     entity: Option<Entity>,
     fields: &[Field],
-    row: &[Cell],
+    row: &View<'_>,
 ) -> Result<Vec<u8>, AllocError>
-    ensures { IfOk result (λ text. text.items ≡ key_text (map (seen_cell scene.now entity (cells_of row.now)) fields.now)) }
+    ensures { IfOk result (λ text. text.items ≡ key_text (map (seen_cell scene.now entity row.now) fields.now)) }
 {
     let mut text = Vec::new(scene.alloc);
     for field in fields {
@@ -150,12 +157,12 @@ fn is_row_of(
     scene: &Scene,
     entity: Option<Entity>,
     fields: &[Field],
-    row: &[Cell],
+    row: &View<'_>,
     rows: &[Cells],
     index: &Index,
 ) -> Result<bool, AllocError>
     requires { IsIndexOf key_text rows.now index.now }
-    ensures { IfOk result (λ b. b ≡ list_any (same_cells (map (seen_cell scene.now entity (cells_of row.now)) fields.now)) rows.now) }
+    ensures { IfOk result (λ b. b ≡ list_any (same_cells (map (seen_cell scene.now entity row.now) fields.now)) rows.now) }
 {
     let text = text_of_fields(scene, entity, fields, row)?;
     let places = places_under(index, text.as_slice());
@@ -166,10 +173,10 @@ fn is_known_row(
     scene: &Scene,
     entity: Option<Entity>,
     fields: &[Field],
-    row: &[Cell],
+    row: &View<'_>,
     known: &Known,
 ) -> Result<bool, AllocError>
-    ensures { IfOk result (λ b. b ≡ list_any (same_cells (map (seen_cell scene.now entity (cells_of row.now)) fields.now)) known.now) }
+    ensures { IfOk result (λ b. b ≡ list_any (same_cells (map (seen_cell scene.now entity row.now) fields.now)) known.now) }
 {
     let rows = known.rows.as_slice();
     match &known.sought {
@@ -183,10 +190,10 @@ pub(crate) fn is_among(
     scene: &Scene,
     entity: Option<Entity>,
     fields: &[Field],
-    row: &[Cell],
+    row: &View<'_>,
     known: &Known,
 ) -> Result<bool, AllocError>
-    ensures { IfOk result (λ b. b ≡ list_any (equal_cells (map (seen_cell scene.now entity (cells_of row.now)) fields.now)) known.now) }
+    ensures { IfOk result (λ b. b ≡ list_any (equal_cells (map (seen_cell scene.now entity row.now) fields.now)) known.now) }
 {
     if has_null(scene, entity, fields, row) {
         return Ok(false);
@@ -254,9 +261,9 @@ pub(crate) fn shares_node(
     other: Option<Entity>,
     known: &Known,
     entity: Option<Entity>,
-    row: &[Cell],
+    row: &View<'_>,
 ) -> bool
-    ensures { result ≡ list_any (λ x. bytes_eq (node_in other x) (node_in entity (cells_of row.now))) known.now }
+    ensures { result ≡ list_any (λ x. bytes_eq (node_in other x) (node_in entity row.now)) known.now }
 {
-    is_known_node(other, known, node_in(entity, row))
+    is_known_node(other, known, node_seen(entity, row))
 }

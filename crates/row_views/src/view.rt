@@ -212,7 +212,7 @@ impl<'t> View<'t> {
 
     /// The cells of the row. Those of a fact are copied.
     pub fn into_cells(self, alloc: Global) -> Result<Cells, AllocError>
-        ensures { IfOk result (λ cells. cells ≡ self) }
+        ensures { IfOk result (λ cells. cells ≡ self.entry) }
     {
         let View { held } = self;
         match held {

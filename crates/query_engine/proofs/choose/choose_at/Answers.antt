@@ -1,11 +1,7 @@
-use Rattle.std.proofs.Common.{◌∙◌, ◌++◌, ℕ, List, Bool, Some, map, ap}
+use Rattle.std.proofs.Common.{◌∙◌, ◌++◌, ℕ, List, Bool, map, ap}
 use Rattle.std.proofs.lemmas.Result.{IfOk-weaker}
-use Rattle.fleet_tables.specs.fleet_rows.declared.row.Entity.TheVariants.{Facts}
-use Rattle.fleet_tables.specs.table_machine.Rows.{table_rows}
-use Rattle.query_plan.specs.means_spec.Cells.{node_in}
 use Rattle.query_plan.specs.Made.{stage_of}
 use Rattle.query_reach.specs.Seen.{texts_seen}
-use Rattle.query_engine.specs.Fetched.{fetched}
 use Rattle.query_engine.proofs.RowReads.{chosen_at}
 use Rattle.query_engine.proofs.choose.choose_at.Goals as goal
 
@@ -17,6 +13,5 @@ returns-clause-value g c =
     (λ u h. h
     ∙ ap (λ l. c.args.chosen.now ++ l)
     (chosen_at c.args.tables.now says ps c.args.found.now (stage_of c.args.stage.now) c.args.entity c.requires.entity c.in_ok-facts.facts (texts_seen c.args.names.now) c.requires.names c.args.place
-    c.in_ok-row.row.cells (c.in_ok-facts.ensures.value ∙ ap (λ row. fetched (node_in (Some c.args.entity) row) (table_rows Facts c.args.tables.now) (texts_seen c.args.names.now)) c.as_slice.ensures)
-    c.in_ok-row.ensures.row.1))
+    c.in_ok-row.row c.in_ok-facts.ensures.value c.in_ok-row.ensures.row))
     c.choose.ensures.value

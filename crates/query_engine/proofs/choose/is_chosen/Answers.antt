@@ -1,6 +1,5 @@
 use Rattle.std.proofs.Common.{◌≡◌, ◌∙◌, ap, sym, ◌&&◌, ℕ, List, Bool, true, map, [], rules}
 use Rattle.std.proofs.lemmas.Result.{IfOk-weaker}
-use Rattle.fleet_tables.specs.fleet_rows.Cell.{cells_of}
 use Rattle.query_plan.specs.means_spec.Means.{is_seen}
 use Rattle.query_plan.specs.Plan.{run, top}
 use Rattle.query_rows.specs.Scenes.{world}
@@ -11,7 +10,7 @@ returns-then-branch-clause-value g c =
     let ps : List (List ℕ) = map (λ x. g.P.Patterns.made_from x) c.args.compiled.now in
     let says : List ℕ → List ℕ → Bool = g.P.Patterns.says c.args.patterns.now in
     let w = world c.args.scene.now says in
-    let row = cells_of c.args.row.now in
+    let row = c.args.row.now in
     let wanted : c.in_ok-holds.field-0 ≡ true = search rules in
     let told : top (run w ps c.args.found.now c.args.stage.now.entity row c.args.stage.now.steps []) ≡ true =
     ap (λ ss. top (run w ps c.args.found.now c.args.stage.now.entity row ss [])) (sym c.requires) ∙ sym c.in_ok-holds.ensures.value ∙ wanted in

@@ -5,7 +5,7 @@ use Rattle.query_plan.specs.means_spec.Cells.{equals}
 use Rattle.query_plan.specs.query_spec.declared.parts.Literal.{Literal}
 use Rattle.query_rows.specs.Indexed.{places_under, passes_at}
 use Rattle.query_rows.specs.Marked.{cell_text}
-use Rattle.query_rows.specs.Seen.{seen_value}
+use Rattle.row_views.specs.Seen.{seen_value}
 use Rattle.query_rows.proofs.IndexLaws.{found_under}
 use Rattle.query_rows.proofs.literals.equals_known.Goals as goal
 

@@ -2,7 +2,7 @@ use Rattle.std.proofs.Common.{◌∙◌, sym}
 use Rattle.query_plan.specs.means_spec.Cells.{equals}
 use Rattle.query_plan.specs.query_spec.declared.parts.Literal.{Literal}
 use Rattle.query_rows.specs.Indexed.{passes_at}
-use Rattle.query_rows.specs.Seen.{seen_value}
+use Rattle.row_views.specs.Seen.{seen_value}
 use Rattle.query_rows.proofs.IndexLaws.{any_here, any_on}
 use Rattle.query_rows.proofs.literals.is_equal_at.Goals as goal
 

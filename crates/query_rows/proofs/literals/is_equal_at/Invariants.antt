@@ -3,7 +3,7 @@ use Rattle.std.specs.List.{list_any}
 use Rattle.query_plan.specs.means_spec.Cells.{equals}
 use Rattle.query_plan.specs.query_spec.declared.parts.Literal.{Literal}
 use Rattle.query_rows.specs.Indexed.{passes_at}
-use Rattle.query_rows.specs.Seen.{seen_value}
+use Rattle.row_views.specs.Seen.{seen_value}
 use Rattle.query_rows.proofs.literals.is_equal_at.Given as goal
 
 abbrev pub invariant-loop-place : goal.invariant-loop-place

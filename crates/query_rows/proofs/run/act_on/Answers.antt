@@ -1,5 +1,4 @@
 use Rattle.std.proofs.Common.{◌∙◌, ap, sym, ℕ, List, [], ◌∷◌, Bool, map, reverse}
-use Rattle.fleet_tables.specs.fleet_rows.Cell.{cells_of}
 use Rattle.query_plan.specs.Made.{step_of}
 use Rattle.query_plan.specs.Plan.{act}
 use Rattle.query_rows.specs.Scenes.{world}
@@ -14,4 +13,4 @@ returns-in_ok-push-in-Selects-clause-value g c =
     ap reverse c.in_ok-push-in-Selects.ensures.items
     ∙ reverse-append stack (c.in_ok-selects-in-Selects.field-0 ∷ [])
     ∙ ap (λ b. b ∷ reverse stack) (c.in_ok-selects-in-Selects.ensures says)
-    ∙ ap (λ s. act (world c.args.scene.now says) ps c.args.found.now c.args.entity (cells_of c.args.row.now) (step_of s) (reverse stack)) (sym c.in-Selects.is)
+    ∙ ap (λ s. act (world c.args.scene.now says) ps c.args.found.now c.args.entity c.args.row.now (step_of s) (reverse stack)) (sym c.in-Selects.is)

@@ -1,6 +1,5 @@
 use Rattle.std.proofs.Common.{◌≡◌, ◌∙◌, ◌+◌, ℕ, List, ◌∷◌, map, drop, reverse, ap, sym}
 use Rattle.std.proofs.lemmas.List.{drop_more}
-use Rattle.fleet_tables.specs.fleet_rows.Cell.{cells_of}
 use Rattle.query_plan.specs.means_spec.World.{World}
 use Rattle.query_plan.specs.Plan.{Step}
 use Rattle.query_rows.specs.Scenes.{world}
@@ -27,6 +26,6 @@ loop-ready-preserved g c =
       silent = c.step_on.ensures.silent ∙ c.loop-ready.invariant.silent;
       tried = tried_then _ _ _ c.loop-ready.invariant.tried c.step_on.ensures.tried;
       rest =
-          one_step_more w v alike ps c.args.found.now c.args.entity (cells_of c.args.row.now) (drop c.loop-ready.ready-index c.args.steps.now) s ss is (reverse c.loop-ready.stack.items)
+          one_step_more w v alike ps c.args.found.now c.args.entity c.args.row.now (drop c.loop-ready.ready-index c.args.steps.now) s ss is (reverse c.loop-ready.stack.items)
           (reverse c.step_on.new.stack.items) _ c.in_ok-step_on.ensures.value c.loop-ready.invariant.rest;
     }

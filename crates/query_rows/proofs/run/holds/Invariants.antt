@@ -1,5 +1,4 @@
 use Rattle.std.proofs.Common.{◌≡◌, ℕ, List, [], map, reverse, drop}
-use Rattle.fleet_tables.specs.fleet_rows.Cell.{cells_of}
 use Rattle.query_plan.specs.Plan.{run}
 use Rattle.query_rows.specs.Scenes.{world}
 use Rattle.query_rows.specs.Tries.{HasTried}
@@ -14,5 +13,5 @@ invariant-loop-ready g l =
       calm : g.P.Patterns.refusals l.patterns ≡ g.P.Patterns.refusals l.initial.patterns;
       silent : g.P.Patterns.asked l.patterns ≡ g.P.Patterns.asked l.initial.patterns;
       tried : HasTried (g.P.Patterns.course l.initial.patterns) (g.P.Patterns.course l.patterns);
-      rest : run w ps l.found l.entity (cells_of l.row) (drop l.ready-index l.steps) (reverse l.stack.items) ≡ run w ps l.found l.entity (cells_of l.row) l.steps [];
+      rest : run w ps l.found l.entity l.row (drop l.ready-index l.steps) (reverse l.stack.items) ≡ run w ps l.found l.entity l.row l.steps [];
     }

@@ -1,5 +1,4 @@
 use Rattle.std.proofs.Common.{◌≡◌, ◌∙◌, ap, sym, subst, refl}
-use Rattle.fleet_tables.specs.fleet_rows.Cell.{cells_of}
 use Rattle.query_plan.specs.means_spec.Cells.{field_cell, field_compares, compares}
 use Rattle.query_plan.specs.query_spec.declared.parts.Field.{Field}
 use Rattle.query_rows.specs.Scenes.{world}
@@ -9,7 +8,7 @@ use Rattle.query_rows.proofs.scene.compares.Goals as goal
 pub returns-in-Column : goal.returns-in-Column
 returns-in-Column c = λ says.
     let w = world c.args.scene.now says in
-    let row = cells_of c.args.row.now in
+    let row = c.args.row.now in
     let Same : Field → Type 0 = λ f. compares c.args.op (field_cell w c.args.entity f row) c.args.literal.now ≡ field_compares w c.args.entity c.args.op f c.args.literal.now row in
     c.compares_cell.ensures
     ∙ ap (λ x. compares c.args.op x c.args.literal.now) (seen_is c.args.scene.now says c.args.entity row c.args.field.now)
@@ -18,7 +17,7 @@ returns-in-Column c = λ says.
 pub returns-in-Parameter : goal.returns-in-Parameter
 returns-in-Parameter c = λ says.
     let w = world c.args.scene.now says in
-    let row = cells_of c.args.row.now in
+    let row = c.args.row.now in
     let Same : Field → Type 0 = λ f. compares c.args.op (field_cell w c.args.entity f row) c.args.literal.now ≡ field_compares w c.args.entity c.args.op f c.args.literal.now row in
     c.compares_cell-in-Parameter.ensures
     ∙ ap (λ x. compares c.args.op x c.args.literal.now) (seen_is c.args.scene.now says c.args.entity row c.args.field.now)
@@ -27,7 +26,7 @@ returns-in-Parameter c = λ says.
 pub returns-in-Fact : goal.returns-in-Fact
 returns-in-Fact c = λ says.
     let w = world c.args.scene.now says in
-    let row = cells_of c.args.row.now in
+    let row = c.args.row.now in
     let Same : Field → Type 0 = λ f. compares c.args.op (field_cell w c.args.entity f row) c.args.literal.now ≡ field_compares w c.args.entity c.args.op f c.args.literal.now row in
     c.compares_cell-in-Fact.ensures
     ∙ ap (λ x. compares c.args.op x c.args.literal.now) (seen_is c.args.scene.now says c.args.entity row c.args.field.now)

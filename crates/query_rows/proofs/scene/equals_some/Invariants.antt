@@ -2,7 +2,7 @@ use Rattle.std.proofs.Common.{◌≡◌, drop}
 use Rattle.std.specs.List.{list_any}
 use Rattle.query_plan.specs.means_spec.Cells.{equals}
 use Rattle.query_plan.specs.query_spec.declared.parts.Literal.{Literal}
-use Rattle.query_rows.specs.Seen.{seen_value}
+use Rattle.row_views.specs.Seen.{seen_value}
 use Rattle.query_rows.proofs.scene.equals_some.Given as goal
 
 abbrev pub invariant-loop-literal : goal.invariant-loop-literal

@@ -1,6 +1,5 @@
 use Rattle.std.proofs.Common.{◌≡◌, ◌∙◌, List, map, ap, sym, subst}
 use Rattle.std.specs.List.{list_any}
-use Rattle.fleet_tables.specs.fleet_rows.Cell.{cells_of}
 use Rattle.query_plan.specs.means_spec.Cells.{same_cells}
 use Rattle.query_plan.specs.table_spec.Rows.{Cells}
 use Rattle.query_rows.specs.Indexed.{places_under, holds_place, passes_at}
@@ -12,7 +11,7 @@ use Rattle.query_rows.proofs.tuples.is_row_of.Goals as goal
 
 pub returns : goal.returns
 returns c =
-    let xs : Cells = map (seen_cell c.args.scene.now c.args.entity (cells_of c.args.row.now)) c.args.fields.now in
+    let xs : Cells = map (seen_cell c.args.scene.now c.args.entity c.args.row.now) c.args.fields.now in
     let rows : List Cells = c.args.rows.now in
     let text : c.as_slice.result.now ≡ key_text xs = c.as_slice.ensures.value ∙ c.in_ok-text.ensures in
     c.is_row_at.ensures
