@@ -9,6 +9,8 @@ pub mod Tried
 pub mod Picks
 pub mod FactLaws
 pub mod Stages
+mod OrderLaws
+mod StoppingLaws
 mod TextCells
 mod WantedLaws
 mod FetchedLaws

@@ -7,20 +7,31 @@ use Rattle.query_plan.specs.query_spec.declared.parts.Selected.{Selected}
 use Rattle.query_plan.specs.query_spec.Check.{Place, first}
 use Rattle.query_plan.specs.table_spec.Rows.{Cells}
 use Rattle.query_plan.specs.means_spec.World.{World}
-use Rattle.query_plan.specs.Plan.{Stage, answers, shaped, shaped_sum, chosen_rows, stage_rows, stage_sum, solved, solved_sum}
+use Rattle.query_plan.specs.Plan.{Shape, Stage, whole, answers, shaped, shaped_sum, chosen_rows, stage_rows, stage_sum, solved, solved_sum}
 use Rattle.fleet_tables.specs.fleet_rows.declared.row.Entity.{Entity}
 use Rattle.query_reach.specs.Pins.{stage_reads, stages_read}
 use Rattle.query_engine.specs.Answers.{IsAnswered, IsStageAnswered}
+use Rattle.query_engine.specs.Stopping.{IsEnough, first_of}
 use Rattle.query_engine.specs.declared.answer.Answered.{Answered}
 use Rattle.query_engine.specs.declared.answer.Answered.TheVariants.{Rows, TooLarge}
 
-module _ (w : World) (ps : List (List ℕ)) (found : List (List Cells)) (s : Stage) (ss : Option (List Selected)) (g : List Name) (p : Paging) (rows : List Cells) (shape : s.shape ≡ answers ss g p) (chosen : rows ≡ chosen_rows w ps found s) where
-  sum_of_stage : stage_sum w ps found s ≡ shaped_sum s.entity (answers ss g p) rows
-  sum_of_stage = λ i. shaped_sum s.entity (shape i) (sym chosen i)
+-- ---- the answer of a stage from the first of the rows that it chooses
 
-  pub stage_answered : (a : Answered) → IsAnswered s.entity ss g p rows a → IsStageAnswered w ps found s a
-  stage_answered (Rows lines) h = (sum_of_stage ∙ h.0, h.1 ∙ (λ i. shaped s.entity (sym shape i) (chosen i)))
-  stage_answered (TooLarge place) h = sum_of_stage ∙ h
+module _ (w : World) (ps : List (List ℕ)) (found : List (List Cells)) (s : Stage) (enough : Option ℕ) (rows : List Cells) (chosen : rows ≡ first_of enough (chosen_rows w ps found s))
+    (all : IsEnough s.entity s.shape enough (chosen_rows w ps found s)) where
+  module _ (ss : Option (List Selected)) (g : List Name) (p : Paging) (shape : s.shape ≡ answers ss g p) where
+    sum_of_stage : stage_sum w ps found s ≡ shaped_sum s.entity (answers ss g p) rows
+    sum_of_stage = sym all.sum_is ∙ (λ i. shaped_sum s.entity (shape i) (sym chosen i))
+
+    pub stage_answered : (a : Answered) → IsAnswered s.entity ss g p rows a → IsStageAnswered w ps found s a
+    stage_answered (Rows lines) h = (sum_of_stage ∙ h.0, h.1 ∙ (λ i. shaped s.entity (sym shape i) (chosen i)) ∙ all.rows_are)
+    stage_answered (TooLarge place) h = sum_of_stage ∙ h
+
+  pub stage_whole : s.shape ≡ whole → IsStageAnswered w ps found s (Rows rows)
+  stage_whole shape = (
+    ap (λ (x : Shape). shaped_sum s.entity x (chosen_rows w ps found s)) shape,
+    chosen ∙ ap (λ (x : Shape). shaped s.entity x (first_of enough (chosen_rows w ps found s))) (sym shape) ∙ all.rows_are,
+  )
 
 module _ (w v : World) (same : v ≡ w) (ps : List (List ℕ)) (found : List (List Cells)) (x : Stage) (xs left : List Stage) (is : left ≡ x ∷ xs) where
   pub sum_told : (whole : Option Place) (place : Place) → stage_sum v ps found x ≡ Some place → solved_sum w ps found left ≡ whole → whole ≡ Some place

@@ -1,6 +1,8 @@
 pub mod Fetched
 pub mod Wanted
 pub mod Joins
+pub mod Ordered
+pub mod Stopping
 pub mod Added
 pub mod Best
 pub mod Grouped

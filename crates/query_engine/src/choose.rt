@@ -13,10 +13,12 @@ ghost use Rattle.query_rows.specs.Scenes.{world};
 ghost use Rattle.query_rows.specs.Tables.{world_of};
 ghost use Rattle.query_engine.specs.Fetched.{picked, slice_one};
 ghost use Rattle.query_engine.specs.Joins.{Joins, step_join};
+ghost use Rattle.query_engine.specs.Stopping.{first_of};
 
 use crate::facts::facts_for;
 use crate::joins::Nodes;
 use crate::reading::places_for;
+use crate::stopping::suffices;
 use fleet_tables::fleet_rows::Entity;
 use fleet_tables::{Steps, Tables};
 use paging_text::Lines;
@@ -117,7 +119,8 @@ fn choose_at<L: Ledger, P: Patterns>(
     choose(&scene, patterns, compiled, found, stage, steps, row, chosen)
 }
 
-// The chosen rows among those at the places. Each place is read once.
+// The first chosen rows among those at the places, as many as suffice. Each place is read at most once, and none behind the last
+// of these rows.
 #[tactic(auto, using(query_rows::proofs::TryLaws::tried_nothing, query_rows::proofs::TryLaws::tried_then))]
 fn read_places<L: Ledger, P: Patterns>(
     alloc: Global,
@@ -130,6 +133,7 @@ fn read_places<L: Ledger, P: Patterns>(
     names: &[&Text],
     entity: Entity,
     places: &[usize],
+    enough: Option<usize>,
     walk: &mut Steps<L>,
 ) -> Result<Lines, AllocError>
     requires steps { steps.now ≡ stage.now.steps }
@@ -141,11 +145,14 @@ fn read_places<L: Ledger, P: Patterns>(
     ensures silent { P.asked patterns.new ≡ P.asked patterns.old }
     ensures tried { HasTried (P.course patterns.old) (P.course patterns.new) }
     ensures cost { walk.new ≤ walk.old + length places.now * (1 + length names.now) }
-    ensures value { IfOk result (λ rows. rows ≡ filter (is_chosen (world_of tables.now (P.says patterns.old))
-        (map (λ c. P.made_from c) compiled.now) found.now (stage_of stage.now)) (picked (table_rows entity tables.now) places.now)) }
+    ensures value { IfOk result (λ rows. rows ≡ first_of enough (filter (is_chosen (world_of tables.now (P.says patterns.old))
+        (map (λ c. P.made_from c) compiled.now) found.now (stage_of stage.now)) (picked (table_rows entity tables.now) places.now))) }
 {
     let mut chosen = Lines::new(alloc);
     'reading: for place in places {
+        if suffices(&chosen, enough) {
+            return Ok(chosen);
+        }
         choose_at(
             alloc,
             tables,
@@ -164,7 +171,7 @@ fn read_places<L: Ledger, P: Patterns>(
     Ok(chosen)
 }
 
-// The chosen rows of an entity, read by the places of the rows in reach.
+// The first chosen rows of an entity, read by the places of the rows in reach.
 fn chosen_of<L: Ledger, P: Patterns>(
     alloc: Global,
     tables: &Tables,
@@ -177,6 +184,7 @@ fn chosen_of<L: Ledger, P: Patterns>(
     pins: &Pins,
     nodes: &Nodes,
     entity: Entity,
+    enough: Option<usize>,
     walk: &mut Steps<L>,
 ) -> Result<Lines, AllocError>
     requires steps { steps.now ≡ stage.now.steps }
@@ -190,8 +198,8 @@ fn chosen_of<L: Ledger, P: Patterns>(
     ensures silent { P.asked patterns.new ≡ P.asked patterns.old }
     ensures tried { HasTried (P.course patterns.old) (P.course patterns.new) }
     ensures cost { walk.new ≤ walk.old + length (filter (is_found (Some entity) pins.now) (table_rows entity tables.now)) * (1 + length names.now) }
-    ensures value { IfOk result (λ rows. rows ≡ filter (is_chosen (world_of tables.now (P.says patterns.old))
-        (map (λ c. P.made_from c) compiled.now) found.now (stage_of stage.now)) (table_rows entity tables.now)) }
+    ensures value { IfOk result (λ rows. rows ≡ first_of enough (filter (is_chosen (world_of tables.now (P.says patterns.old))
+        (map (λ c. P.made_from c) compiled.now) found.now (stage_of stage.now)) (table_rows entity tables.now))) }
 {
     let places = places_for(alloc, tables, entity, pins.as_slice(), nodes)?;
     read_places(
@@ -205,12 +213,13 @@ fn chosen_of<L: Ledger, P: Patterns>(
         names,
         entity,
         places.as_slice(),
+        enough,
         walk,
     )
 }
 
-/// The rows that the stage chooses. `found` has the rows of the levels before it. Only rows in reach of the pins are read,
-/// and of the nodes alone if the stage is limited to them.
+/// The first of the rows that the stage chooses, as many as suffice. `found` has the rows of the levels before it. Only rows in
+/// reach of the pins are read, and of the nodes alone if the stage is limited to them.
 #[tactic(auto, using(query_rows::proofs::TryLaws::tried_nothing))]
 pub(crate) fn chosen_rows<L: Ledger, P: Patterns>(
     alloc: Global,
@@ -223,6 +232,7 @@ pub(crate) fn chosen_rows<L: Ledger, P: Patterns>(
     names: &[&Text],
     pins: &Pins,
     nodes: &Nodes,
+    enough: Option<usize>,
     walk: &mut Steps<L>,
 ) -> Result<Lines, AllocError>
     requires steps { steps.now ≡ stage.now.steps }
@@ -235,14 +245,14 @@ pub(crate) fn chosen_rows<L: Ledger, P: Patterns>(
     ensures silent { P.asked patterns.new ≡ P.asked patterns.old }
     ensures tried { HasTried (P.course patterns.old) (P.course patterns.new) }
     ensures cost { walk.new ≤ walk.old + reach (λ e. table_rows e tables.now) stage.now.entity pins.now * (1 + length names.now) }
-    ensures value { IfOk result (λ rows. rows ≡ chosen_rows (world_of tables.now (P.says patterns.old))
-        (map (λ c. P.made_from c) compiled.now) found.now (stage_of stage.now)) }
+    ensures value { IfOk result (λ rows. rows ≡ first_of enough (chosen_rows (world_of tables.now (P.says patterns.old))
+        (map (λ c. P.made_from c) compiled.now) found.now (stage_of stage.now))) }
 {
     match stage.entity {
         None => Ok(Lines::new(alloc)),
         Some(entity) => chosen_of(
             alloc, tables, patterns, compiled, found, stage, steps, names, pins, nodes, entity,
-            walk,
+            enough, walk,
         ),
     }
 }

@@ -23,6 +23,7 @@ use crate::choose::chosen_rows;
 use crate::joins::nodes_for;
 use crate::reading::{Reading, pins_for};
 use crate::shown::output_names;
+use crate::stopping::enough_for;
 use fleet_tables::fleet_rows::Names;
 use fleet_tables::{Steps, Tables};
 use paging_text::OutRows;
@@ -122,8 +123,9 @@ fn stage_rows<'q, L: Ledger, P: Patterns>(
     let nodes = nodes_for(alloc, tables, reading, list, found)?;
     let steps = ready.as_slice();
     let named = names.as_slice();
+    let enough = enough_for(tables, stage);
     let rows = chosen_rows(
-        alloc, tables, patterns, compiled, found, stage, steps, named, &pins, &nodes, walk,
+        alloc, tables, patterns, compiled, found, stage, steps, named, &pins, &nodes, enough, walk,
     )?;
     match stage.shape {
         Shape::Whole => Ok(Answered::Rows(rows)),

@@ -10,7 +10,8 @@
 //! A level reads the rows that show what its filter demands of certnames, names of facts, types and titles; the tables find their
 //! places without reading a row. Each other row would fail the filter. If a conjunct demands that a row's node is one of those of an
 //! inner level, and that level found few, only the rows of these nodes are asked for. [`select_reading`] can read all rows instead. A
-//! fact that a filter names is one row more for each row that is read.
+//! fact that a filter names is one row more for each row that is read. A level with a limit, without an order and without groups
+//! stops as soon as it has chosen the rows up to the end of its page.
 //!
 //! Each step of a filter tests a single row. The rows of a level within `in` or `subquery`, and the literals of a long array, are
 //! indexed by a text once. So a row is compared with few of them. Grouping takes a look-up for each row, and then sorts the groups.
@@ -36,6 +37,7 @@ mod groups;
 mod joins;
 mod reading;
 mod shown;
+mod stopping;
 mod sums;
 
 pub use engine::{Picked, QueryFault, select, select_reading, select_uncounted};

@@ -1,4 +1,4 @@
-use Rattle.std.proofs.Common.{◌≡◌, ◌∙◌, List, Bool, ℕ, map, true, codes}
+use Rattle.std.proofs.Common.{◌≡◌, ◌∙◌, List, Bool, ℕ, map, ap, true, codes}
 use Rattle.std.proofs.lemmas.Result.{IfOk-weaker}
 use Rattle.fleet_tables.specs.table_machine.Rows.{table_rows}
 use Rattle.query_plan.specs.Made.{stage_of}
@@ -6,6 +6,7 @@ use Rattle.query_plan.specs.Plan.{is_chosen}
 use Rattle.query_reach.specs.Seen.{texts_seen}
 use Rattle.query_rows.specs.Tables.{world_of}
 use Rattle.query_engine.specs.Joins.{is_of}
+use Rattle.query_engine.specs.Stopping.{first_of}
 use Rattle.query_engine.proofs.JoinLaws.{chosen_is_of}
 use Rattle.query_engine.proofs.PlacedRows.{cost_within}
 use Rattle.query_engine.proofs.ReadLaws.{read_so, read_within, read_few, read_all}
@@ -39,7 +40,7 @@ returns-clause-value g c =
     let s = stage_of c.args.stage.now in
     IfOk-weaker c.read_places.result _ _
     (λ lines h. h
-    ∙ read_all e c.args.pins.now nodes rows _ (is_chosen w ps c.args.found.now s) c.requires.implied c.args.nodes.now.joined
+    ∙ ap (first_of c.args.enough) (read_all e c.args.pins.now nodes rows _ (is_chosen w ps c.args.found.now s) c.requires.implied c.args.nodes.now.joined
     (λ on. all_as (IsTextIn e (codes "certname")) (λ row. is_chosen w ps c.args.found.now s row ≡ true → is_of e nodes row ≡ true) rows (chosen_is_of w ps c.args.found.now s e nodes c.requires.entity (c.requires.joined on)) (certnames_are_texts e c.args.tables.now))
-    (read_so c.args.nodes.now.joined e _ c.args.pins.now nodes rows _ _ c.as_slice.ensures c.as_slice-2.ensures.value c.in_ok-places.ensures))
+    (read_so c.args.nodes.now.joined e _ c.args.pins.now nodes rows _ _ c.as_slice.ensures c.as_slice-2.ensures.value c.in_ok-places.ensures)))
     c.read_places.ensures.value

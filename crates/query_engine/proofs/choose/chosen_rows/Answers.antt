@@ -8,6 +8,8 @@ use Rattle.query_plan.specs.Made.{stage_of}
 use Rattle.query_plan.specs.Plan.{is_chosen}
 use Rattle.query_reach.specs.Reach.{is_found, reach}
 use Rattle.query_rows.specs.Tables.{world_of}
+use Rattle.query_engine.specs.Stopping.{first_of}
+use Rattle.query_engine.proofs.StoppingLaws.{none_first}
 use Rattle.query_engine.proofs.choose.chosen_rows.Goals as goal
 
 pub chosen_of-requires-clause-implied : goal.chosen_of-requires-clause-implied
@@ -25,4 +27,11 @@ returns-in-Some-clause-value g c =
     let says : List ℕ → List ℕ → Bool = g.P.Patterns.says c.args.patterns.now in
     let w = world_of c.args.tables.now says in
     let s = stage_of c.args.stage.now in
-    IfOk-weaker c.chosen_of.result _ _ (λ rows h. h ∙ ap (λ o. filter (is_chosen w ps c.args.found.now s) (rows_in w o)) (sym c.in-Some.is)) c.chosen_of.ensures.value
+    IfOk-weaker c.chosen_of.result _ _ (λ rows h. h ∙ ap (λ o. first_of c.args.enough (filter (is_chosen w ps c.args.found.now s) (rows_in w o))) (sym c.in-Some.is)) c.chosen_of.ensures.value
+
+pub returns-in-None-clause-value : goal.returns-in-None-clause-value
+returns-in-None-clause-value g c =
+    let ps : List (List ℕ) = map (λ x. g.P.Patterns.made_from x) c.args.compiled.now in
+    let w = world_of c.args.tables.now (g.P.Patterns.says c.args.patterns.now) in
+    let s = stage_of c.args.stage.now in
+    c.new.ensures ∙ sym (none_first c.args.enough) ∙ ap (λ o. first_of c.args.enough (filter (is_chosen w ps c.args.found.now s) (rows_in w o))) (sym c.in-None.is)

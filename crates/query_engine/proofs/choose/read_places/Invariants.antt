@@ -6,6 +6,7 @@ use Rattle.fleet_tables.specs.table_machine.Rows.{table_rows}
 use Rattle.query_rows.specs.Tables.{world_of}
 use Rattle.query_rows.specs.Tries.{HasTried}
 use Rattle.query_engine.specs.Fetched.{picked}
+use Rattle.query_engine.specs.Stopping.{IsAtMost}
 use Rattle.query_engine.proofs.choose.read_places.Given as goal
 
 abbrev pub invariant-reading : goal.invariant-reading
@@ -19,5 +20,6 @@ invariant-reading g l =
       silent : g.P.Patterns.asked l.patterns ≡ g.P.Patterns.asked l.initial.patterns;
       tried : HasTried (g.P.Patterns.course l.initial.patterns) (g.P.Patterns.course l.patterns);
       cost : l.walk ≤ l.initial.walk + l.place-index * (1 + length l.names);
+      few : IsAtMost l.enough (length l.chosen);
       rest : l.chosen ++ filter test (picked rows (drop l.place-index l.places)) ≡ filter test (picked rows l.places);
     }

@@ -6,7 +6,7 @@ use Rattle.query_reach.specs.Seen.{texts_seen}
 use Rattle.query_rows.specs.Tables.{world_of}
 use Rattle.query_engine.specs.Joins.{Joins, step_join}
 use Rattle.query_engine.proofs.RowReads.{pins_imply, stage_cost}
-use Rattle.query_engine.proofs.Stages.{stage_answered}
+use Rattle.query_engine.proofs.Stages.{stage_answered, stage_whole}
 use Rattle.query_engine.proofs.engine.stage_rows.Goals as goal
 
 pub chosen_rows-requires-clause-names : goal.chosen_rows-requires-clause-names
@@ -43,5 +43,11 @@ returns-clause-value g c =
     let ps : List (List ℕ) = map (λ x. g.P.Patterns.made_from x) c.args.compiled.now in
     let says : List ℕ → List ℕ → Bool = g.P.Patterns.says c.args.patterns.now in
     IfOk-weaker c.answer_of.result _ _
-    (stage_answered (world_of c.args.tables.now says) ps c.args.found.now (stage_of c.args.stage.now) _ _ _ c.in_ok-rows.rows (ap shape_of c.in-Answers.is) c.in_ok-rows.ensures.value)
+    (stage_answered (world_of c.args.tables.now says) ps c.args.found.now (stage_of c.args.stage.now) c.enough_for.result c.in_ok-rows.rows c.in_ok-rows.ensures.value (c.enough_for.ensures _) _ _ _ (ap shape_of c.in-Answers.is))
     c.answer_of.ensures
+
+pub returns-in-Whole-clause-value : goal.returns-in-Whole-clause-value
+returns-in-Whole-clause-value g c =
+    let ps : List (List ℕ) = map (λ x. g.P.Patterns.made_from x) c.args.compiled.now in
+    let says : List ℕ → List ℕ → Bool = g.P.Patterns.says c.args.patterns.now in
+    stage_whole (world_of c.args.tables.now says) ps c.args.found.now (stage_of c.args.stage.now) c.enough_for.result c.in_ok-rows.rows c.in_ok-rows.ensures.value (c.enough_for.ensures _) (ap shape_of c.in-Whole.is)
