@@ -11,6 +11,7 @@ pub mod FactLaws
 pub mod Stages
 mod OrderLaws
 mod StoppingLaws
+mod CountLaws
 mod TextCells
 mod WantedLaws
 mod FetchedLaws

@@ -3,6 +3,7 @@ pub mod Wanted
 pub mod Joins
 pub mod Ordered
 pub mod Stopping
+pub mod Counting
 pub mod Added
 pub mod Best
 pub mod Grouped

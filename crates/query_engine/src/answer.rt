@@ -142,8 +142,8 @@ fn group_rows(
 
 // ---- whole answers
 
-// The rows after a paging.
-fn paged(names: Names, rows: Lines, paging: &Paging) -> Result<Lines, AllocError>
+/// The rows after a paging.
+pub(crate) fn paged(names: Names, rows: Lines, paging: &Paging) -> Result<Lines, AllocError>
     ensures { IfOk result (λ left. left ≡ paged names paging.now rows) }
 {
     let page = page(OutRows { names, rows }, paging)?;

@@ -20,6 +20,7 @@ ghost use Rattle.query_engine.specs.declared.engine.QueryFault.TheVariants.{Memo
 
 use crate::answer::{Answered, answer_of};
 use crate::choose::chosen_rows;
+use crate::counting::counted;
 use crate::joins::nodes_for;
 use crate::reading::{Reading, pins_for};
 use crate::shown::output_names;
@@ -96,9 +97,9 @@ fn compile_all<P: Patterns>(
     Ok(compiled)
 }
 
-// The rows of a stage. `found` has the rows of the stages before it.
+// The rows of a stage that reads rows. `found` has the rows of the stages before it.
 #[tactic(auto, using(query_rows::proofs::TryLaws::tried_nothing))]
-fn stage_rows<'q, L: Ledger, P: Patterns>(
+fn read_rows<'q, L: Ledger, P: Patterns>(
     alloc: Global,
     tables: &Tables,
     patterns: &mut P,
@@ -140,6 +141,34 @@ fn stage_rows<'q, L: Ledger, P: Patterns>(
                 rows,
             )
         }
+    }
+}
+
+// The rows of a stage. One that only counts them reads none.
+#[tactic(auto, using(query_rows::proofs::TryLaws::tried_nothing))]
+fn stage_rows<'q, L: Ledger, P: Patterns>(
+    alloc: Global,
+    tables: &Tables,
+    patterns: &mut P,
+    compiled: &[P::Compiled],
+    found: &[Known],
+    stage: &Stage<'q>,
+    reading: Reading,
+    walk: &mut Steps<L>,
+) -> Result<Answered<'q>, AllocError>
+    ensures same { (p t : List ℕ) → P.says patterns.new p t ≡ P.says patterns.old p t }
+    ensures calm { P.refusals patterns.new ≡ P.refusals patterns.old }
+    ensures silent { P.asked patterns.new ≡ P.asked patterns.old }
+    ensures tried { HasTried (P.course patterns.old) (P.course patterns.new) }
+    ensures cost { reading ≡ InReach → walk.new ≤ walk.old + stage_reads (λ e. table_rows e tables.now) (stage_of stage.now) }
+    ensures value { IfOk result (IsStageAnswered (world_of tables.now (P.says patterns.old)) (map (λ c. P.made_from c) compiled.now) found.now
+        (stage_of stage.now)) }
+{
+    match counted(alloc, tables, stage)? {
+        Some(rows) => Ok(Answered::Rows(rows)),
+        None => read_rows(
+            alloc, tables, patterns, compiled, found, stage, reading, walk,
+        ),
     }
 }
 

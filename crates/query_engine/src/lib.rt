@@ -11,7 +11,7 @@
 //! places without reading a row. Each other row would fail the filter. If a conjunct demands that a row's node is one of those of an
 //! inner level, and that level found few, only the rows of these nodes are asked for. [`select_reading`] can read all rows instead. A
 //! fact that a filter names is one row more for each row that is read. A level with a limit, without an order and without groups
-//! stops as soon as it has chosen the rows up to the end of its page.
+//! stops as soon as it has chosen the rows up to the end of its page. A bare count of an entity reads no row.
 //!
 //! Each step of a filter tests a single row. The rows of a level within `in` or `subquery`, and the literals of a long array, are
 //! indexed by a text once. So a row is compared with few of them. Grouping takes a look-up for each row, and then sorts the groups.
@@ -30,6 +30,7 @@
 
 mod answer;
 mod choose;
+mod counting;
 mod engine;
 mod facts;
 mod functions;

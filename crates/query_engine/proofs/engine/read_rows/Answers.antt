@@ -7,7 +7,7 @@ use Rattle.query_rows.specs.Tables.{world_of}
 use Rattle.query_engine.specs.Joins.{Joins, step_join}
 use Rattle.query_engine.proofs.RowReads.{pins_imply, stage_cost}
 use Rattle.query_engine.proofs.Stages.{stage_answered, stage_whole}
-use Rattle.query_engine.proofs.engine.stage_rows.Goals as goal
+use Rattle.query_engine.proofs.engine.read_rows.Goals as goal
 
 pub chosen_rows-requires-clause-names : goal.chosen_rows-requires-clause-names
 chosen_rows-requires-clause-names g c =
