@@ -34,8 +34,8 @@ module _ (w : World) (ps : List (List ℕ)) (found : List (List Cells)) (s : Sta
   )
 
 module _ (w v : World) (same : v ≡ w) (ps : List (List ℕ)) (found : List (List Cells)) (x : Stage) (xs left : List Stage) (is : left ≡ x ∷ xs) where
-  pub sum_told : (whole : Option Place) (place : Place) → stage_sum v ps found x ≡ Some place → solved_sum w ps found left ≡ whole → whole ≡ Some place
-  sum_told whole place h e =
+  pub sum_told : (total : Option Place) (place : Place) → stage_sum v ps found x ≡ Some place → solved_sum w ps found left ≡ total → total ≡ Some place
+  sum_told total place h e =
       sym e ∙ ap (solved_sum w ps found) is ∙ (λ i. first (stage_sum (sym same i) ps found x) (solved_sum w ps (found ++ stage_rows w ps found x ∷ []) xs))
       ∙ ap (λ o. first o (solved_sum w ps (found ++ stage_rows w ps found x ∷ []) xs)) h
 
@@ -43,11 +43,11 @@ module _ (w v : World) (same : v ≡ w) (ps : List (List ℕ)) (found : List (Li
     grown : new ≡ found ++ stage_rows w ps found x ∷ []
     grown = pushed ∙ ap (λ r. found ++ r ∷ []) (rows_are ∙ ap (λ u. stage_rows u ps found x) same)
 
-    pub rows_on : (whole : List (List Cells)) → solved w ps found left ≡ whole → solved w ps new xs ≡ whole
-    rows_on whole e = ap (λ f. solved w ps f xs) grown ∙ sym (ap (solved w ps found) is) ∙ e
+    pub rows_on : (total : List (List Cells)) → solved w ps found left ≡ total → solved w ps new xs ≡ total
+    rows_on total e = ap (λ f. solved w ps f xs) grown ∙ sym (ap (solved w ps found) is) ∙ e
 
-    pub sums_on : (whole : Option Place) → stage_sum v ps found x ≡ None → solved_sum w ps found left ≡ whole → solved_sum w ps new xs ≡ whole
-    sums_on whole h e =
+    pub sums_on : (total : Option Place) → stage_sum v ps found x ≡ None → solved_sum w ps found left ≡ total → solved_sum w ps new xs ≡ total
+    sums_on total h e =
         ap (λ f. solved_sum w ps f xs) grown
         ∙ ap (λ o. first o (solved_sum w ps (found ++ stage_rows w ps found x ∷ []) xs)) (sym (ap (λ u. stage_sum u ps found x) (sym same) ∙ h))
         ∙ sym (ap (solved_sum w ps found) is)
@@ -58,13 +58,13 @@ module _ (w v : World) (same : v ≡ w) (ps : List (List ℕ)) (found : List (Li
 module _ (rows : Entity → List Cells) (x : Stage) (xs left : List Stage) (is : left ≡ x ∷ xs) (start walk next total : ℕ) (so_far : walk + stages_read rows left ≤ start + total) (read : next ≤ walk + stage_reads rows x) where
   pub cost_on : next + stages_read rows xs ≤ start + total
   cost_on =
-      let whole : stages_read rows left ≡ stage_reads rows x + stages_read rows xs = ap (stages_read rows) is ∙ sum_by-cons (stage_reads rows) x xs in
-      omega (arith, whole, so_far, read)
+      let parts : stages_read rows left ≡ stage_reads rows x + stages_read rows xs = ap (stages_read rows) is ∙ sum_by-cons (stage_reads rows) x xs in
+      omega (arith, parts, so_far, read)
 
   pub cost_now : next ≤ start + total
   cost_now =
-      let whole : stages_read rows left ≡ stage_reads rows x + stages_read rows xs = ap (stages_read rows) is ∙ sum_by-cons (stage_reads rows) x xs in
-      omega (arith, whole, so_far, read)
+      let parts : stages_read rows left ≡ stage_reads rows x + stages_read rows xs = ap (stages_read rows) is ∙ sum_by-cons (stage_reads rows) x xs in
+      omega (arith, parts, so_far, read)
 
 pub cost_whole : (rest start walk total : ℕ) → walk + rest ≤ start + total → walk ≤ start + total
 cost_whole rest start walk total h = omega (arith, h)

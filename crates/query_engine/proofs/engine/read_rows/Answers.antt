@@ -1,6 +1,7 @@
 use Rattle.std.proofs.Common.{◌∙◌, ℕ, List, Bool, map, ap, subst}
 use Rattle.std.proofs.lemmas.Result.{IfOk-weaker}
 use Rattle.query_plan.specs.Made.{shape_of, stage_of}
+use Rattle.query_plan.specs.Plan.{is_chosen}
 use Rattle.query_reach.specs.Pins.{steps_facts}
 use Rattle.query_reach.specs.Seen.{texts_seen}
 use Rattle.query_rows.specs.Tables.{world_of}
@@ -43,11 +44,11 @@ returns-clause-value g c =
     let ps : List (List ℕ) = map (λ x. g.P.Patterns.made_from x) c.args.compiled.now in
     let says : List ℕ → List ℕ → Bool = g.P.Patterns.says c.args.patterns.now in
     IfOk-weaker c.answer_of.result _ _
-    (stage_answered (world_of c.args.tables.now says) ps c.args.found.now (stage_of c.args.stage.now) c.enough_for.result c.in_ok-rows.rows c.in_ok-rows.ensures.value (c.enough_for.ensures _) _ _ _ (ap shape_of c.in-Answers.is))
+    (stage_answered (world_of c.args.tables.now says) ps c.args.found.now (stage_of c.args.stage.now) c.enough_for-enough.result c.in_ok-rows.rows c.in_ok-rows.ensures.value (c.enough_for-enough.ensures says (is_chosen (world_of c.args.tables.now says) ps c.args.found.now (stage_of c.args.stage.now))) _ _ _ (ap shape_of c.in-Answers.is))
     c.answer_of.ensures
 
 pub returns-in-Whole-clause-value : goal.returns-in-Whole-clause-value
 returns-in-Whole-clause-value g c =
     let ps : List (List ℕ) = map (λ x. g.P.Patterns.made_from x) c.args.compiled.now in
     let says : List ℕ → List ℕ → Bool = g.P.Patterns.says c.args.patterns.now in
-    stage_whole (world_of c.args.tables.now says) ps c.args.found.now (stage_of c.args.stage.now) c.enough_for.result c.in_ok-rows.rows c.in_ok-rows.ensures.value (c.enough_for.ensures _) (ap shape_of c.in-Whole.is)
+    stage_whole (world_of c.args.tables.now says) ps c.args.found.now (stage_of c.args.stage.now) c.enough_for-enough.result c.in_ok-rows.rows c.in_ok-rows.ensures.value (c.enough_for-enough.ensures says (is_chosen (world_of c.args.tables.now says) ps c.args.found.now (stage_of c.args.stage.now))) (ap shape_of c.in-Whole.is)
