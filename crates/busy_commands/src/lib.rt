@@ -16,7 +16,7 @@
 //!   the front fails in place of a connection. Any other fault ends one connection, or is answered on it.
 //!
 //! Costs and limits:
-//! - The core is prepared before listening. Without memory for that, each row computes what it shows.
+//! - No row is read before listening. The first query for rows computes what they show, and what is computed is kept.
 //! - No clause says that a connection is taken after the previous one ended, or that nothing read ahead is answered after a
 //!   failed write.
 #![tactic(auto)]

@@ -110,30 +110,8 @@ pub(crate) fn serve_disks<D: Disk + Drop, F: Front + Drop, P: Patterns + Drop>(
     }
 }
 
-// Serves connections over the core, after computing what all its rows show.
+// Listens, and serves connections over the core.
 fn serve_core<D: Disk + Drop, F: Front + Drop, P: Patterns + Drop>(
-    alloc: Global,
-    core: Core<D, LogKeeper<D>>,
-    serving: Serving,
-    now: Moment,
-    front: &mut F,
-    patterns: &mut P,
-) -> Ended<D>
-    requires stamp { HasStamp now }
-    ensures { ServesOver (disk_sight_of D.Disk) now serving
-        (front_and_patterns (front_sight (F.listens front.old) (F.left front.old) (F.handed_out front.old) (F.given_back front.old) (F.fault_count front.old))
-        (pattern_sight (P.says patterns.old) (P.asked patterns.old) (P.refusals patterns.old)))
-        (front_and_patterns (front_sight (F.listens front.new) (F.left front.new) (F.handed_out front.new) (F.given_back front.new) (F.fault_count front.new))
-        (pattern_sight (P.says patterns.new) (P.asked patterns.new) (P.refusals patterns.new))) core result.disks result.status }
-{
-    let mut core = core;
-    // Without memory for this, each row computes it for itself.
-    let _ = core.prepare();
-    serve_prepared(alloc, core, serving, now, front, patterns)
-}
-
-// Listens, and serves connections over the core as it is.
-fn serve_prepared<D: Disk + Drop, F: Front + Drop, P: Patterns + Drop>(
     alloc: Global,
     core: Core<D, LogKeeper<D>>,
     serving: Serving,

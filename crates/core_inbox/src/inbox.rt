@@ -3,15 +3,33 @@ ghost use Rattle.std.specs.Prelude.{◌≡◌};
 
 use core_ends::{Core, Keeper};
 use fleet_ports::Disk;
-use fleet_rows::{Command, Submitted};
+use fleet_rows::json_tree::Text;
+use fleet_rows::{Command, Entity, Submitted};
 use fleet_tables::Tables;
 use link_serving::Inbox;
+use std::alloc::AllocError;
 use std::marker::Model;
 
 /// A core that takes commands in. Contracts see the core.
 #[derive(Drop)]
 pub(crate) struct CoreInbox<D: Disk + Drop, K: Keeper + Drop> {
     core: Core<D, K>,
+    // The bits of the entities that are prepared. No call changes the tables, so they stay prepared.
+    prepared: u32,
+}
+
+// The bit of an entity in `prepared`.
+fn bit_of(entity: Entity) -> u32 {
+    match entity {
+        Entity::Nodes => 1,
+        Entity::Factsets => 2,
+        Entity::Facts => 4,
+        Entity::Catalogs => 8,
+        Entity::Resources => 16,
+        Entity::Edges => 32,
+        Entity::Reports => 64,
+        _ => 128,
+    }
 }
 
 impl<D: Disk + Drop, K: Keeper + Drop> Model for CoreInbox<D, K> {
@@ -32,13 +50,13 @@ impl<D: Disk + Drop, K: Keeper + Drop> CoreInbox<D, K> {
     pub(crate) fn new(core: Core<D, K>) -> CoreInbox<D, K>
         ensures { result ≡ core }
     {
-        CoreInbox { core }
+        CoreInbox { core, prepared: 0 }
     }
 
     pub(crate) fn into_core(self) -> Core<D, K>
         ensures { result ≡ self }
     {
-        let CoreInbox { core } = self;
+        let CoreInbox { core, prepared: _ } = self;
         core
     }
 }
@@ -55,6 +73,19 @@ impl<D: Disk + Drop, K: Keeper + Drop> Inbox for CoreInbox<D, K> {
 
     fn tables(&self) -> &Tables {
         self.core.tables()
+    }
+
+    fn prepare(&mut self, entity: Entity) -> Result<(), AllocError> {
+        let bit = bit_of(entity);
+        if self.prepared & bit == 0 {
+            self.core.prepare_entity(entity)?;
+            self.prepared |= bit;
+        }
+        Ok(())
+    }
+
+    fn prepare_node(&mut self, entity: Entity, certname: &Text) -> Result<(), AllocError> {
+        self.core.prepare_node(entity, certname)
     }
 
     fn submit(&mut self, command: Command) -> Submitted {

@@ -7,9 +7,11 @@ ghost use Rattle.fleet_rows.specs.declared.submitted.Submitted.{Submitted};
 ghost use Rattle.http_routes.specs.Inbox.{Held, IsSubmit};
 ghost use Rattle.json_tree.specs.Limits.{most_payload};
 
-use fleet_rows::Command;
+use fleet_rows::{Command, Entity};
 use fleet_tables::Tables;
+use json_tree::Text;
 use routes_spec::Submitted;
+use std::alloc::AllocError;
 
 /// Takes commands, and has tables that its calls don't change.
 pub trait Inbox {
@@ -26,6 +28,15 @@ pub trait Inbox {
     /// The tables.
     fn tables(&self) -> &Tables
         ensures { result.now ≡ shown self.now };
+
+    /// Computes what the rows of an entity show, as far as it is missing (`Tables::prepare`). The inbox is unchanged for contracts,
+    /// also without memory.
+    fn prepare(&mut self, entity: Entity) -> Result<(), AllocError>
+        ensures { self.new ≡ self.old };
+
+    /// Computes it for the node with this certname alone (`Tables::prepare_node`).
+    fn prepare_node(&mut self, entity: Entity, certname: &Text) -> Result<(), AllocError>
+        ensures { self.new ≡ self.old };
 
     /// Takes a command under the next receipt, or says why not. After `QueueFault` the fault count has risen and the inbox may be
     /// down. Any other refusal leaves the inbox unchanged.

@@ -3,10 +3,11 @@ ghost use Rattle.std.specs.Prelude.{◌≡◌, ◌≤◌, length, true, false};
 ghost use Rattle.http_routes.specs.Inbox.{IsFull, IsSubmit};
 ghost use Rattle.http_tests.specs.Outside.{bytes_in, taken_in, held_in};
 
-use fleet_rows::Command;
+use fleet_rows::{Command, Entity};
 use fleet_tables::Tables;
 use http_routes::{Inbox, Submitted};
-use std::alloc::Global;
+use json_tree::Text;
+use std::alloc::{AllocError, Global};
 
 /// What an inbox answers.
 #[derive(Clone, Copy)]
@@ -92,6 +93,14 @@ impl Inbox for OneInbox {
 
     fn tables(&self) -> &Tables {
         &self.tables
+    }
+
+    fn prepare(&mut self, entity: Entity) -> Result<(), AllocError> {
+        self.tables.prepare(entity)
+    }
+
+    fn prepare_node(&mut self, entity: Entity, certname: &Text) -> Result<(), AllocError> {
+        self.tables.prepare_node(entity, certname)
     }
 
     fn submit(&mut self, command: Command) -> Submitted {
