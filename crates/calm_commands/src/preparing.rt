@@ -7,7 +7,7 @@ use fleet_rows::Entity;
 use fleet_tables::Tables;
 use pql_reader::read_pql;
 use query_answer::is_ast;
-use query_needs::{Needs, NodeNeed, needs_of};
+use query_needs::{Needs, NodeNeed, Readers, needs_of};
 use std::alloc::{AllocError, Global};
 
 fn prepare_nodes(tables: &mut Tables, nodes: &[NodeNeed<'_>]) -> Result<(), AllocError>
@@ -38,7 +38,7 @@ fn prepare(tables: &mut Tables, needs: &Needs<'_>) -> Result<(), AllocError>
 fn prepare_query(alloc: Global, tables: &mut Tables, query: &Query) -> Result<(), AllocError>
     ensures { tables.new ≡ tables.old }
 {
-    let needs = needs_of(alloc, query)?;
+    let needs = needs_of(alloc, query, Readers::One)?;
     prepare(tables, &needs)
 }
 

@@ -85,7 +85,10 @@ impl<D: Disk + Drop, K: Keeper + Drop> Inbox for CoreInbox<D, K> {
     }
 
     fn prepare_node(&mut self, entity: Entity, certname: &Text) -> Result<(), AllocError> {
-        self.core.prepare_node(entity, certname)
+        if self.prepared & bit_of(entity) == 0 {
+            self.core.prepare_node(entity, certname)?;
+        }
+        Ok(())
     }
 
     fn submit(&mut self, command: Command) -> Submitted {

@@ -9,5 +9,6 @@ pub mod PostedLaws
 pub mod RoutedLaws
 pub mod Asking
 pub mod Answering
+pub mod Inquiring
 pub mod Prints
 pub mod UuidTexts

@@ -4,6 +4,7 @@ pub mod Questions
 pub mod Told
 pub mod Moves
 pub mod Asked
+pub mod Inquiries
 pub mod Uuids
 pub mod Routed
 pub mod Course

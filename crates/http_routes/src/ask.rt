@@ -1,5 +1,5 @@
 //! Answers the questions on the query routes.
-ghost use Rattle.std.specs.Prelude.{◌≡◌, ◌≢◌, ℕ, List, IfOk, Some};
+ghost use Rattle.std.specs.Prelude.{◌≡◌, ◌≢◌, ℕ, List, IfOk};
 ghost use Rattle.routes_spec.specs.fleet_tables.Stands.{Stands};
 ghost use Rattle.routes_spec.specs.history_spec.Trace.{Trace};
 ghost use Rattle.routes_spec.specs.means_spec.OutRows.{lines_text};
@@ -7,17 +7,14 @@ ghost use Rattle.routes_spec.specs.means_spec.World as spec;
 ghost use Rattle.paging_params.specs.Params.{last_under};
 ghost use Rattle.paging_text.specs.Shown.{rows_of, written_text};
 ghost use Rattle.query_engine.specs.Tables.{world_of};
-ghost use Rattle.routes_spec.specs.Answers.{IsRowsAnswer, IsQuestionAnswer};
-ghost use Rattle.routes_spec.specs.Queries as meant;
-ghost use Rattle.routes_spec.specs.Reading.{ReadsFront, IsReadOf, IsReadOn, IsReadFor};
-ghost use Rattle.http_routes.specs.Asked.{shown_answer, IsPagedAnswer, IsUnpagedAnswer, IsPickedAnswer, IsUnpickedAnswer, IsAskAnswer, AnswersAsked};
-ghost use Rattle.http_routes.specs.Questions.{Asks};
+ghost use Rattle.routes_spec.specs.Answers.{IsRowsAnswer};
+ghost use Rattle.routes_spec.specs.Reading.{ReadsFront, IsReadFor};
+ghost use Rattle.http_routes.specs.Asked.{shown_answer, IsPagedAnswer, IsUnpagedAnswer, IsPickedAnswer, IsUnpickedAnswer, AnswersAsked};
+ghost use Rattle.http_routes.specs.Inquiries.{IsInquiryFor};
 ghost use Rattle.http_routes.specs.Routed.{IsQueryRequest, IsAskedAnswer};
 
-use crate::answers::{bad_paging, error, refused};
-use crate::paths::route_of;
-use crate::question::{Question, question_in};
-use crate::told::{Told, told_on};
+use crate::answers::{bad_paging, refused};
+use crate::inquiry::{Inquiry, inquiry_of};
 use ast_tree::Query;
 use fleet_tables::Tables;
 use http_spec::{Answer, Request};
@@ -26,7 +23,7 @@ use paging_text::{OutRows, page, write_rows};
 use pattern_port::Patterns;
 use query_engine::{Picked, QueryFault, select_uncounted};
 use query_spec::Paging;
-use routes_spec::{QueryRefusal, Route};
+use routes_spec::QueryRefusal;
 use std::alloc::{AllocError, Global};
 
 // The answer with the rows that a paging leaves.
@@ -122,47 +119,26 @@ fn rows_answer<P: Patterns>(
     picked_answer(alloc, ends, query, params, picked)
 }
 
-fn question_answer<P: Patterns>(
+/// Answers what a request asks for.
+pub(crate) fn answer_inquiry<P: Patterns>(
     alloc: Global,
     tables: &Tables,
     patterns: &mut P,
-    ends: bool,
-    route: Route,
-    question: Question,
-) -> Result<Answer, AllocError>
-    ensures same { (p t : List ℕ) → P.says patterns.new p t ≡ P.says patterns.old p t }
-    ensures answer { (asked : meant.Question) → Asks question asked
-        → AnswersAsked (P.asked patterns.old) (P.asked patterns.new) (P.refusals patterns.old) (P.refusals patterns.new)
-        (IsReadOf route asked.query) (IsQuestionAnswer (world_of tables.now (P.says patterns.old)) written_text ends route (Some asked)) result }
-    ensures code { IfOk result (λ answer. answer.code ≢ 500) }
-{
-    let Question { query, params } = question;
-    match told_on(alloc, route, query) {
-        Told::Query(query) => rows_answer(alloc, tables, patterns, ends, &query, &params),
-        Told::Refused(why) => refused(alloc, ends, &why),
-        Told::Missing => error(alloc, ends, 400, b"missing query"),
-        Told::Memory => Err(AllocError),
-    }
-}
-
-// Answers a request on a query route.
-fn ask<P: Patterns>(
-    alloc: Global,
-    tables: &Tables,
-    patterns: &mut P,
-    route: Route,
     request: &Request,
+    inquiry: Inquiry,
 ) -> Result<Answer, AllocError>
+    requires asked { IsQueryRequest request.now }
+    requires inquiry { IsInquiryFor request.now inquiry }
     ensures same { (p t : List ℕ) → P.says patterns.new p t ≡ P.says patterns.old p t }
     ensures answer { AnswersAsked (P.asked patterns.old) (P.asked patterns.new) (P.refusals patterns.old) (P.refusals patterns.new)
-        (IsReadOn route request.now) (IsAskAnswer (world_of tables.now (P.says patterns.old)) written_text route request.now) result }
+        (IsReadFor request.now) (IsAskedAnswer (world_of tables.now (P.says patterns.old)) written_text request.now) result }
     ensures code { IfOk result (λ answer. answer.code ≢ 500) }
 {
-    let ends = request.ends;
-    let asked = question_in(alloc, request)?;
-    match asked {
-        Some(question) => question_answer(alloc, tables, patterns, ends, route, question),
-        None => error(alloc, ends, 400, b"bad body"),
+    match inquiry {
+        Inquiry::Rows(query, params) => {
+            rows_answer(alloc, tables, patterns, request.ends, &query, &params)
+        }
+        Inquiry::Done(answer) => Ok(answer),
     }
 }
 
@@ -187,9 +163,6 @@ pub fn answer_query<P: Patterns>(
         (IsReadFor request.now) (IsAskedAnswer (spec.world_of tables.now.ttls history (P.says patterns.old)) lines_text request.now) result }
     ensures code { IfOk result (λ answer. answer.code ≢ 500) }
 {
-    match route_of(request) {
-        Some(found) => ask(alloc, tables, patterns, found, request),
-        // This line is unreachable: a query's path has a route.
-        None => error(alloc, request.ends, 404, b"no such path"),
-    }
+    let inquiry = inquiry_of(alloc, request)?;
+    answer_inquiry(alloc, tables, patterns, request, inquiry)
 }

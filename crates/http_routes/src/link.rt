@@ -15,8 +15,8 @@ ghost use Rattle.http_routes.specs.Course.{outside, end_behind, end_of, IsAnswer
 ghost use Rattle.json_tree.specs.Limits.{most_payload};
 
 use crate::answers::{answer_submitted, error};
-use crate::ask::answer_query;
 use crate::inbox::Inbox;
+use crate::preparing::answer_prepared;
 use crate::routed::{Routed, route};
 use crate::send::{Sent, fault_code, fault_text, send, send_memory};
 use fleet_ports::{Sink, Source};
@@ -58,7 +58,7 @@ fn answered<I: Inbox + Drop, P: Patterns + Drop>(
     let routed = route(alloc, request, now)?;
     match routed {
         Routed::Command(command) => answer_submitted(alloc, ends, inbox.submit(command)),
-        Routed::Query(request) => answer_query(alloc, &request, inbox.tables(), patterns),
+        Routed::Query(request) => answer_prepared(alloc, inbox, patterns, &request),
         Routed::Done(answer) => Ok(answer),
     }
 }

@@ -5,6 +5,24 @@ use query_plan::{Stage, Step};
 use query_reach::{Demand, Pin, demand_on, facts_of, pins_of};
 use std::alloc::{AllocError, Global};
 
+/// Who reads what is computed.
+#[derive(Clone, Copy)]
+pub enum Readers {
+    /// One query.
+    One,
+    /// A query and later ones, which may read the same rows.
+    Many,
+}
+
+impl Readers {
+    pub(crate) fn are_many(self) -> bool {
+        match self {
+            Readers::One => false,
+            Readers::Many => true,
+        }
+    }
+}
+
 /// How often a level would compute the same of an entity's rows, for each node that it reads.
 #[derive(Clone, Copy)]
 pub(crate) enum Need {
@@ -77,12 +95,16 @@ fn need_of(
     own: Entity,
     steps: &[Step<'_>],
 ) -> Result<Need, AllocError> {
+    let named = entity == Entity::Facts && facts_of(alloc, steps)?.len() > 0;
+    if !named && own != entity {
+        return Ok(Need::Never);
+    }
     let pins = pins_of(alloc, steps)?;
     let mut need = Need::Never;
     if own == entity {
         need = own_need(own, pins.as_slice());
     }
-    if entity == Entity::Facts && facts_of(alloc, steps)?.len() > 0 {
+    if named {
         need = greater(need, named_need(pins.as_slice()));
     }
     Ok(need)
@@ -117,6 +139,7 @@ pub(crate) fn node_need<'q>(
     alloc: Global,
     entity: Entity,
     steps: &[Step<'q>],
+    readers: Readers,
 ) -> Result<Option<OneNode<'q>>, AllocError> {
     let pins = pins_of(alloc, steps)?;
     match demand_on(pins.as_slice(), "certname") {
@@ -124,7 +147,7 @@ pub(crate) fn node_need<'q>(
             let facts = facts_of(alloc, steps)?.len() > 0;
             Ok(Some(OneNode {
                 certname,
-                own: !are_apart(entity, pins.as_slice()),
+                own: readers.are_many() || !are_apart(entity, pins.as_slice()),
                 facts,
             }))
         }

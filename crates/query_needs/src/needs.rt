@@ -1,5 +1,5 @@
 //! Lists what a query reads more than once.
-use crate::level::{Need, level_need, node_need};
+use crate::level::{Need, Readers, level_need, node_need};
 use ast_tree::Query;
 use fleet_rows::Entity;
 use fleet_rows::json_tree::Text;
@@ -38,9 +38,10 @@ fn push_pinned<'q>(
     alloc: Global,
     entity: Entity,
     stage: &Stage<'q>,
+    readers: Readers,
     nodes: &mut Vec<NodeNeed<'q>>,
 ) -> Result<(), AllocError> {
-    match node_need(alloc, entity, stage.steps.as_slice())? {
+    match node_need(alloc, entity, stage.steps.as_slice(), readers)? {
         Some(node) => {
             let certname = node.certname;
             if node.own {
@@ -61,18 +62,23 @@ fn push_pinned<'q>(
 fn push_node<'q>(
     alloc: Global,
     stage: &Stage<'q>,
+    readers: Readers,
     nodes: &mut Vec<NodeNeed<'q>>,
 ) -> Result<(), AllocError> {
     match stage.entity {
         None => Ok(()),
-        Some(entity) => push_pinned(alloc, entity, stage, nodes),
+        Some(entity) => push_pinned(alloc, entity, stage, readers, nodes),
     }
 }
 
-fn nodes_of<'q>(alloc: Global, stages: &[Stage<'q>]) -> Result<Vec<NodeNeed<'q>>, AllocError> {
+fn nodes_of<'q>(
+    alloc: Global,
+    stages: &[Stage<'q>],
+    readers: Readers,
+) -> Result<Vec<NodeNeed<'q>>, AllocError> {
     let mut nodes = Vec::new(alloc);
     for stage in stages {
-        push_node(alloc, stage, &mut nodes)?;
+        push_node(alloc, stage, readers, &mut nodes)?;
     }
     Ok(nodes)
 }
@@ -80,8 +86,13 @@ fn nodes_of<'q>(alloc: Global, stages: &[Stage<'q>]) -> Result<Vec<NodeNeed<'q>>
 // ---- entities
 
 // Whether the levels need the entity for all nodes.
-fn is_needed(alloc: Global, entity: Entity, stages: &[Stage<'_>]) -> Result<bool, AllocError> {
-    let mut once = false;
+fn is_needed(
+    alloc: Global,
+    entity: Entity,
+    stages: &[Stage<'_>],
+    readers: Readers,
+) -> Result<bool, AllocError> {
+    let mut once = readers.are_many();
     for stage in stages {
         match level_need(alloc, entity, stage)? {
             Need::Never => {}
@@ -97,23 +108,31 @@ fn is_needed(alloc: Global, entity: Entity, stages: &[Stage<'_>]) -> Result<bool
     Ok(false)
 }
 
-fn entities_of(alloc: Global, stages: &[Stage<'_>]) -> Result<Vec<Entity>, AllocError> {
+fn entities_of(
+    alloc: Global,
+    stages: &[Stage<'_>],
+    readers: Readers,
+) -> Result<Vec<Entity>, AllocError> {
     let mut entities = Vec::new(alloc);
     for i in 0..PREPARED.len() {
-        if is_needed(alloc, PREPARED[i], stages)? {
+        if is_needed(alloc, PREPARED[i], stages, readers)? {
             entities.push(PREPARED[i])?;
         }
+    }
+    if readers.are_many() && is_needed(alloc, Entity::Nodes, stages, readers)? {
+        entities.push(Entity::Nodes)?;
     }
     // This entity has no rows to compute. But with each entity the places of all groups are prepared, so that rows are found by halving.
     entities.push(Entity::EventCounts)?;
     Ok(entities)
 }
 
-/// What a query reads more than once of the rows of a node.
-pub fn needs_of(alloc: Global, query: &Query) -> Result<Needs<'_>, AllocError> {
+/// What a query needs prepared. Of one reader alone that is what it reads more than once of the rows of a node.
+pub fn needs_of(alloc: Global, query: &Query, readers: Readers) -> Result<Needs<'_>, AllocError> {
     let plan = plan_of(alloc, query.level())?;
+    let stages = plan.stages.as_slice();
     Ok(Needs {
-        entities: entities_of(alloc, plan.stages.as_slice())?,
-        nodes: nodes_of(alloc, plan.stages.as_slice())?,
+        entities: entities_of(alloc, stages, readers)?,
+        nodes: nodes_of(alloc, stages, readers)?,
     })
 }
