@@ -1,15 +1,13 @@
 """Requests a second of one link over the loopback, each sent when the one before is answered: queries that find one row, of fleets of
-several sizes, queries that find one row of many nodes, and posts of 10 kB with a checksum. Beside the program stands a plain loop of reads
-and writes in C (loop.c), which answers as many bytes, and for posts makes as many synced writes. The same client asks both.
+several sizes, and posts of 10 kB with a checksum. Beside the program stands a plain loop of reads and writes in C (loop.c), which answers
+as many bytes, and for posts makes as many synced writes. The same client asks both.
 
 Usage: links.py PROGRAM FOLDER [COUNT]
 PROGRAM is the built program, crates/puppetdb_server/out/puppetdb_server. FOLDER is where its files lie, and the plain loop's: /dev/shm for
-what is the program's own, a folder of a disk for posts beside its syncs. COUNT is how many queries of one row a fleet is asked, 20,000 if none
-is given; queries of many rows are asked so often that they print as many rows; and a tenth of COUNT are posts. Beside requests a second
-by the clock stand the microseconds of the server's processor for each, of the user and the system together, and of the user alone, which a
-link in memory would take too: where other programs run, only these say something. Beside queries of many rows stands what is wanted: 2
-microseconds for each row and 1 for each node of the fleet. The servers take turns, RUNS times each, and the best of each is told. Needs
-`cc`.
+what is the program's own, a folder of a disk for posts beside its syncs. COUNT is how many queries a fleet is asked, 20,000 if none is
+given, and a tenth of COUNT are posts. Beside requests a second by the clock stand the microseconds of the server's processor for each, of
+the user and the system together, and of the user alone, which a link in memory would take too: where other programs run, only these say
+something. The servers take turns, RUNS times each, and the best of each is told. Needs `cc`.
 """
 import hashlib
 import json
@@ -27,24 +25,9 @@ RUNS = 3
 
 NODES = (1, 100, 5_000)
 
-# each node has the first of these classes, and each tenth node the second
-COMMON, RARE = "Ntp", "Apache"
-
-# beside the classes
-RESOURCES = 38
+RESOURCES = 40
 
 HEADS = "Host: 127.0.0.1:8080\r\nAccept: application/json\r\nUser-Agent: bench\r\n"
-
-# queries that find rows of many nodes
-PAIR = '["and",["=","type","Class"],["=","title","%s"]]'
-IN_PAIR = '["in","certname",["extract","certname",["select_resources",%s]]]'
-MANY = [
-    ("a fact of all nodes", "facts", '["=","name","fact0003"]'),
-    ("a class of all nodes", "resources", PAIR % COMMON),
-    ("a class of each tenth node", "resources", PAIR % RARE),
-    ("nodes with the class of all nodes", "nodes", IN_PAIR % (PAIR % COMMON)),
-    ("nodes with the class of each tenth node", "nodes", IN_PAIR % (PAIR % RARE)),
-]
 
 TICKS = os.sysconf("SC_CLK_TCK")
 
@@ -117,7 +100,6 @@ def first_answer(program, folder, request):
 
 def catalog(number):
     """The catalog of a node."""
-    titles = [("Class", COMMON)] + [("Class", RARE)] * (number % 10 == 0) + [("File", f"/etc/{each}") for each in range(RESOURCES)]
     common = {"exported": False, "file": None, "line": None, "tags": [], "parameters": {"ensure": "present"}}
     body = {
         "certname": f"n{number:06}",
@@ -129,7 +111,7 @@ def catalog(number):
         "job_id": None,
         "producer_timestamp": "2024-05-01T10:00:00Z",
         "producer": "m",
-        "resources": [{"type": kind, "title": title} | common for kind, title in titles],
+        "resources": [{"type": "File", "title": f"/etc/{each}"} | common for each in range(RESOURCES)],
         "edges": [],
     }
     return json.dumps(body, separators=(",", ":")).encode()
@@ -172,15 +154,6 @@ def compared(what, loop, program, folder, requests, count, synced):
     print(f"{what} | {cells[0]} | {cells[1]} | {plain[0] / ours[0]:.2f}", flush=True)
 
 
-def searched(what, loop, program, folder, request, nodes, count):
-    """Tells what a query of many rows takes beside what is wanted. About as many rows are printed as COUNT says."""
-    rows = len(json.loads(first_answer(program, folder, request).partition(b"\r\n\r\n")[2]))
-    count = max(20, count // rows)
-    _, ours, plain = least(loop, program, folder, [request], count, False)
-    wanted = 2 * rows + nodes
-    print(f"{what} | {rows} | {ours[1] / count * 1e6:.1f} | {plain[1] / count * 1e6:.1f} | {wanted}", flush=True)
-
-
 def main():
     program, place = os.path.abspath(sys.argv[1]), sys.argv[2]
     count = int(sys.argv[3]) if len(sys.argv) > 3 else 20_000
@@ -202,11 +175,6 @@ def main():
         fewest = count // 10 + 1
         if int(rows.split()[3]) < fewest:
             sys.exit(f"not all that was posted was applied: {rows}")
-        print("requests, of the last fleet | rows | us of the processor: served | plain loop | wanted")
-        nodes = NODES[-1]
-        laid(program, folder, nodes)
-        for what, entity, text in MANY:
-            searched(what, loop, program, folder, query(entity, text), nodes, count)
 
 
 if __name__ == "__main__":
