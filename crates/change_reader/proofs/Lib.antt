@@ -2,3 +2,4 @@ pub mod Relationships
 pub mod Together
 pub mod Reports
 pub mod Changes
+pub mod Lists

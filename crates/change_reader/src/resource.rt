@@ -117,7 +117,7 @@ fn take_resource(alloc: Global, bytes: &[u8]) -> Result<Option<(Resource, &[u8])
     Ok(Some((resource, rest)))
 }
 
-#[tactic(auto, using(record_values::proofs::Lists::none_before, record_values::proofs::Lists::step_read, record_values::proofs::Lists::fail_read, record_values::proofs::Lists::done_read))]
+#[tactic(auto, using(crate::proofs::Lists::none_before, crate::proofs::Lists::step_read, crate::proofs::Lists::fail_read, crate::proofs::Lists::done_read))]
 fn edges_of(alloc: Global, count: u32, bytes: &[u8]) -> Result<Option<(Edges, &[u8])>, AllocError>
     ensures { IfOk result (λ o. Shows (λ x. (x.0, x.1.now)) o (items_at edge_at count bytes.now)) }
 {
@@ -148,7 +148,7 @@ pub(crate) fn take_edges(alloc: Global, bytes: &[u8]) -> Result<Option<(Edges, &
     edges_of(alloc, count, rest)
 }
 
-#[tactic(auto, using(record_values::proofs::Lists::none_before, record_values::proofs::Lists::step_read, record_values::proofs::Lists::fail_read, record_values::proofs::Lists::done_read))]
+#[tactic(auto, using(crate::proofs::Lists::none_before, crate::proofs::Lists::step_read, crate::proofs::Lists::fail_read, crate::proofs::Lists::done_read))]
 fn resources_of(
     alloc: Global,
     count: u32,

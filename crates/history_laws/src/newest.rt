@@ -3,7 +3,6 @@ ghost use Rattle.history_laws.specs.NewestLaws.{RanksAreByStampAndReceipt, Ranks
 ghost use Rattle.history_laws.specs.NewestLaws.{NoneIsNewestWhereNoneIsOfTheKind};
 
 /// Ranks are compared by producer timestamp, then by receipt. The order is strict and transitive.
-#[tactic(auto, using(crate::proofs::RankWords::ranks_are_by_stamp_and_receipt, crate::proofs::RankWords::ranks_are_in_order, crate::proofs::RankWords::ranks_go_on))]
 pub fn ranks_are_by_stamp_and_receipt()
     ensures by { RanksAreByStampAndReceipt }
     ensures order { RanksAreInOrder }

@@ -12,7 +12,8 @@ ghost use Rattle.lock_calls.specs.Calls.{Lasts};
 ghost use Rattle.live_stage.specs.Notes.{list_of, core_entries};
 ghost use Rattle.live_stage.specs.Trace.{live_of, HasFirst, HasAll, HasFirstIn};
 ghost use Rattle.live_stage.specs.Causes.{AreNoted};
-ghost use Rattle.live_stage.specs.StageCalls.{was_submitted, was_swept, submit_adds, sweep_adds, AddsWork, HasStageJob, OneStageCall, OneClaim, OneSettle, OneRelease, OneLook};
+ghost use Rattle.live_stage.specs.StageCalls.{was_submitted, was_swept, submit_adds, sweep_adds, AddsWork, HasStageJob};
+ghost use Rattle.live_stage.specs.StageCalls.{OneStageCall, OneClaim, OneSettle, OneRelease, OneLook};
 
 use crate::snapshot::Snapshot;
 use crate::stage::Stage;

@@ -5,7 +5,8 @@ ghost use Rattle.means_spec.specs.text_spec.Compact.{comma_if, quoted};
 ghost use Rattle.means_spec.specs.stamp_time.Range.{IsPrintable};
 ghost use Rattle.means_spec.specs.fleet_rows.Cell.{cell_of, cells_of};
 ghost use Rattle.means_spec.specs.OutRows.{lines_text};
-ghost use Rattle.paging_text.specs.Shown.{rows_of, IsPrintableRow, short_text, can_be_printed, moment_text, cell_text, head_text, heads_text, headed_text, row_text, written_text};
+ghost use Rattle.paging_text.specs.Shown.{rows_of, IsPrintableRow, short_text, can_be_printed, moment_text, cell_text};
+ghost use Rattle.paging_text.specs.Shown.{head_text, heads_text, headed_text, row_text, written_text};
 
 use crate::rows::OutRows;
 use means_spec::fleet_rows::Cell;

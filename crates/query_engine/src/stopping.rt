@@ -43,7 +43,8 @@ fn rises_by(order: &Order, column: &str) -> bool
 
 // Whether the rows of each node stand in this order. Facts stand by name.
 fn rise_within(entity: Entity, order: &Order) -> bool
-    ensures { result ≡ true → (ttls : Ttls) (expiry : Option ℤ) (node : Node) → Rises (orders_cmp (columns entity) (order.now ∷ [])) (node_rows entity ttls expiry node) }
+    ensures { result ≡ true
+        → (ttls : Ttls) (expiry : Option ℤ) (node : Node) → Rises (orders_cmp (columns entity) (order.now ∷ [])) (node_rows entity ttls expiry node) }
 {
     match entity {
         Entity::Facts => rises_by(order, "name"),

@@ -15,7 +15,6 @@ pub fn a_report_has_json_columns()
 
 /// A command other than a report has no effect if its node's life has a command of its kind with a greater rank. This holds at
 /// once and after any further events.
-#[tactic(auto, using(crate::proofs::Outranked::outranked_commands_change_nothing, crate::proofs::Outranked::tables_go_on_alike, crate::proofs::Outranked::superseded_commands_say_nothing))]
 pub fn a_superseded_command_says_nothing()
     ensures step { OutrankedCommandsChangeNothing }
     ensures alike { TablesGoOnAlike }
