@@ -17,6 +17,7 @@ use Rattle.core_ends.specs.queue_log.Queued.{queue_down}
 use Rattle.hub_calls.specs.Calls.{SubmitDoes, SweepDoes}
 use Rattle.core_ends.proofs.Later.{queue_rose_later}
 use Rattle.core_ends.proofs.of_core_state.of_fleet_keeper.Within.{rose_from}
+use Rattle.core_ends.proofs.of_core_state.of_plain_laws.Booleans.{or_right}
 use Rattle.live_stage.specs.declared.note.Refused.{Refused}
 use Rattle.live_stage.specs.declared.note.Refused.TheVariants.{QueueFault, QueueDown, StoreFault, StoreDown, CoreDown}
 use Rattle.live_stage.specs.Notes.{NoteView, with_note}
@@ -31,11 +32,6 @@ rose_on n before old new rose later = omega (arith, rose, later)
 abbrev some_of : Refused Command → Option (Refused Command) → Refused Command
 some_of d None = d
 some_of d (Some what) = what
-
-by_store : (undone queue store : Bool) → store ≡ true → (undone || (queue || store)) ≡ true
-by_store true queue store is = refl
-by_store false true store is = refl
-by_store false false store is = is
 
 not_down : swept.StoreDown ≡ swept.Down → ⊥
 not_down is = absurd cc
@@ -83,7 +79,7 @@ module _ {D K : Type 0} (w : Sight D K) where
     -- a sweep at which the store went down leaves the core down
     goes_down : (was : Bool) → is_down w old ≡ was → (generation : K → ℕ) (kinds : Kinds) (m : ℤ) → SweepDoes w generation swept.StoreDown kinds m old new → is_down w new ≡ true
     goes_down true is generation kinds m d = absurd (not_down (d.down.1 is))
-    goes_down false is generation kinds m d = by_store new.undone (queue_down new.queue) (w.store_down new.store) ((d.store_down is).1 refl)
+    goes_down false is generation kinds m d = or_right new.undone (queue_down new.queue || w.store_down new.store) (or_right (queue_down new.queue) (w.store_down new.store) ((d.store_down is).1 refl))
 
     pub sweep_cause : (generation : K → ℕ) (came : Swept) (kinds : Kinds) (m : ℤ) → SweepDoes w generation came kinds m old new → (what : Refused Command) → sweep_note came kinds m ≡ Some what → IsNoted w start new what
     sweep_cause generation swept.StoreFault kinds m d what is = subst (IsNoted w start new) (λ i. some_of StoreFault (is i)) (rose_from 1 _ _ _ p.counts.store (d.cause.cause tt))

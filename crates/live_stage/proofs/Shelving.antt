@@ -10,6 +10,7 @@ use Rattle.core_ends.specs.history_spec.Trace.{Trace, TraceEvent, IsTrace, appli
 use Rattle.core_ends.specs.core_spec.declared.event.Event.TheVariants.{Submit, Claim, Release, Apply, Supersede, Fail, Discard, Sweep, Restart}
 use Rattle.core_ends.specs.core_spec.Commands.{answer_of}
 use Rattle.core_ends.specs.core_spec.History.{History, command, with_applied, trace_of}
+use Rattle.core_ends.proofs.of_core_state.of_plain_laws.Members.{all_drop}
 use Rattle.live_stage.specs.declared.shelf.Step.{Step}
 use Rattle.live_stage.specs.Shelf.{IsEventOf, IsLawfulStep, LeadsTo, KeepsNewest}
 use Rattle.live_stage.specs.Trace.{applied_count, sweep_count}
@@ -50,13 +51,13 @@ leads_cut base (s ∷ steps) whole a =
 
 -- ---- parts of a trace are traces
 
-tail_trace : (e : TraceEvent) (base : Trace) → IsTrace (e ∷ base) → IsTrace base
-tail_trace (applied x) base is = is.4
-tail_trace (swept kinds m) base is = is.1
-
 pub base_trace : (base : Trace) (steps : List Step) (whole : Trace) → LeadsTo base steps whole → IsTrace whole → IsTrace base
 base_trace base [] whole a is = subst IsTrace a is
-base_trace base (s ∷ steps) whole a is = tail_trace a.0 base (base_trace (a.0 ∷ base) steps whole a.2 is)
+base_trace base (s ∷ steps) whole a is = earlier a.0 (base_trace (a.0 ∷ base) steps whole a.2 is)
+  where
+    earlier : (e : TraceEvent) → IsTrace (e ∷ base) → IsTrace base
+    earlier (applied x) is = is.4
+    earlier (swept kinds m) is = is.1
 
 -- ---- the events of a history
 
@@ -79,19 +80,10 @@ pub applied_event : (r : ℕ) (c : Command) (change : Change) (earlier : History
 applied_event r c change earlier is decodes =
     ap (λ o. with_applied r (Some c.received) o (trace_of earlier)) (ap (option_map answer_of) is ∙ ap (λ (a : Result Change Refusal). Some a) decodes)
 
--- ---- what holds of all steps
-
-pub all_join : {A : Type 0} (P : A → Type 0) (xs ys : List A) → AllByRecursion P xs → AllByRecursion P ys → AllByRecursion P (xs ++ ys)
-all_join P [] ys a b = b
-all_join P (x ∷ xs) ys a b = (a.0, all_join P xs ys a.1 b)
-
-pub all_dropped : {A : Type 0} (P : A → Type 0) (n : ℕ) (xs : List A) → AllByRecursion P xs → AllByRecursion P (drop n xs)
-all_dropped P zero xs a = a
-all_dropped P (suc n) [] a = a
-all_dropped P (suc n) (x ∷ xs) a = all_dropped P n xs a.1
+-- ---- the newest steps
 
 pub newest_lawful : (all kept : List Step) → KeepsNewest all kept → AllByRecursion IsLawfulStep all → AllByRecursion IsLawfulStep kept
-newest_lawful all kept is a = subst (λ (l : List Step). AllByRecursion IsLawfulStep l) (sym is.1) (all_dropped IsLawfulStep is.0 all a)
+newest_lawful all kept is a = subst (λ (l : List Step). AllByRecursion IsLawfulStep l) (sym is.1) (all_drop IsLawfulStep is.0 all a)
 
 -- the newest of the newest are the newest
 pub newest_newest : (all some kept : List Step) → KeepsNewest all some → KeepsNewest some kept → KeepsNewest all kept

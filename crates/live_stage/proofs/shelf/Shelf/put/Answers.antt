@@ -1,7 +1,8 @@
 use Rattle.std.proofs.Common.{List, [], ◌∷◌, ◌++◌, subst}
+use Rattle.core_ends.proofs.of_core_state.of_plain_laws.Members.{all_both}
 use Rattle.live_stage.specs.declared.shelf.Step.{Step}
 use Rattle.live_stage.specs.Shelf.{IsLawfulStep, KeepsNewest}
-use Rattle.live_stage.proofs.Shelving.{newest_newest, newest_lawful, all_join}
+use Rattle.live_stage.proofs.Shelving.{newest_newest, newest_lawful}
 use Rattle.live_stage.proofs.shelf.Shelf.put.Goals as goal
 
 pub returns : goal.returns
@@ -14,4 +15,4 @@ pub invariant_of-self : goal.invariant_of-self
 invariant_of-self c =
     let all = c.self.inside.steps.items ++ c.args.step ∷ [] in
     let kept = c.forget_oldest-self-inside.new.steps.items in
-    newest_lawful all kept (newest_newest all c.push.new.steps.items kept c.push.ensures c.forget_oldest-self-inside.ensures) (all_join IsLawfulStep c.self.inside.steps.items (c.args.step ∷ []) c.self.invariant (c.requires, tt))
+    newest_lawful all kept (newest_newest all c.push.new.steps.items kept c.push.ensures c.forget_oldest-self-inside.ensures) (all_both IsLawfulStep c.self.inside.steps.items (c.args.step ∷ []) c.self.invariant (c.requires, tt))
