@@ -23,4 +23,5 @@ pub use Rattle.command_core.proofs.of_core_laws as of_core_laws
 pub use Rattle.command_core.proofs.of_retry_discard as of_retry_discard
 pub use Rattle.command_core.proofs.of_queue_log as of_queue_log
 pub use Rattle.command_core.proofs.of_core_state as of_core_state
+pub use Rattle.command_core.proofs.of_core_opening as of_core_opening
 pub use Rattle.core_course.proofs as of_core_course

@@ -17,7 +17,7 @@ use Rattle.hub_calls.specs.Seen.{OneCall}
 use Rattle.hub_work.specs.Ends.{claimed_job, returned_job, WorkCalls, none, claim, settle, LastCall, by_claim, by_settle, by_release, WorksOn}
 
 -- what differs from each answer that hands a job out hands none out
-no_job : (came : Claimed) → ((job : Job) → came ≢ claimed.Job job) → claimed_job came ≡ None
+pub no_job : (came : Claimed) → ((job : Job) → came ≢ claimed.Job job) → claimed_job came ≡ None
 no_job (claimed.Job job) other = absurd (other job refl)
 no_job claimed.Rest other = refl
 no_job claimed.Done other = refl

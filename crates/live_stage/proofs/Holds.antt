@@ -12,21 +12,12 @@ use Rattle.core_ends.specs.core_settles.declared.answers.Settled.TheVariants as 
 use Rattle.core_ends.specs.core_settles.declared.answers.Verdict.{Verdict}
 use Rattle.core_ends.specs.core_course.Sight.{Sight}
 use Rattle.hub_work.specs.Ends.{claimed_job, returned_job}
+use Rattle.hub_work.proofs.Ends.{no_job}
 use Rattle.hub_calls.specs.Follows.{Follows}
 use Rattle.live_stage.specs.declared.note.Staged.{Staged}
 use Rattle.live_stage.specs.Notes.{StageView, list_of}
 use Rattle.live_stage.specs.Causes.{AreNoted}
 use Rattle.live_stage.specs.StageCalls.{StageCall, was_claimed, was_settled, was_released, added, IsTurn, AreTurns, DoesAtCore, StageDoes, OneStageCall, KnowsStageCalls, OneClaim, OneSettle, OneRelease, WorksOn}
-
--- what differs from each answer that hands a job out hands none out
-no_job : (came : Claimed) → ((job : Job) → came ≢ claimed.Job job) → claimed_job came ≡ None
-no_job (claimed.Job job) other = absurd (other job refl)
-no_job claimed.Rest other = refl
-no_job claimed.Done other = refl
-no_job claimed.QueueFault other = refl
-no_job claimed.Spent other = refl
-no_job claimed.Down other = refl
-no_job claimed.Memory other = refl
 
 -- what differs from each answer without memory hands no job back
 no_memory : (came : Settled) → ((job : Job) (v : Verdict) → came ≢ settled.Memory job v) → returned_job came ≡ None
