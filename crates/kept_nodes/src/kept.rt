@@ -124,7 +124,8 @@ impl HeldReport {
         })
     }
 
-    pub(crate) fn report(&self) -> &Report
+    /// The kept report.
+    pub fn report(&self) -> &Report
         ensures { result.now ≡ self.now }
     {
         &self.report

@@ -1,7 +1,7 @@
 //! Keeps a report with its lists packed.
 //!
 //! A report's lists are most of its bytes, and rows of `reports` alone show them. As trees they take three times as many bytes as
-//! their texts.
+//! their texts. Everything else of a report is read where it is kept.
 ghost use Rattle.std.specs.Prelude.{◌≡◌, Some, IfOk};
 ghost use Rattle.checkpoint_spec.specs.fleet_rows.declared.change.Change.TheVariants as changes;
 ghost use Rattle.checkpoint_spec.specs.history_spec.Lawful.{IsReportChange};
@@ -175,13 +175,6 @@ impl PackedReport {
         })
     }
 
-    /// The producer's timestamp.
-    pub(crate) fn stamp(&self) -> Moment
-        ensures { result ≡ self.now.stamp }
-    {
-        self.stamp
-    }
-
     /// What the row of the node shows of the report. `digest` is its hash.
     pub(crate) fn head<'a>(&'a self, digest: &'a Text) -> ReportHead<'a>
         requires { digest.now ≡ hash (report_object self.now) }
@@ -218,6 +211,82 @@ impl PackedReport {
             logs,
             metrics,
         })
+    }
+}
+
+// What is kept of a report besides its lists. So a reader of these columns unpacks nothing.
+impl PackedReport {
+    pub fn certname(&self) -> &Text
+        ensures { result.now ≡ self.now.certname }
+    {
+        &self.certname
+    }
+
+    pub fn environment(&self) -> &Option<Text>
+        ensures { result.now ≡ self.now.environment }
+    {
+        &self.environment
+    }
+
+    pub fn puppet_version(&self) -> &Option<Text>
+        ensures { result.now ≡ self.now.puppet_version }
+    {
+        &self.puppet_version
+    }
+
+    pub fn report_format(&self) -> Option<u64>
+        ensures { result ≡ self.now.report_format }
+    {
+        self.report_format
+    }
+
+    pub fn configuration_version(&self) -> &Option<Text>
+        ensures { result.now ≡ self.now.configuration_version }
+    {
+        &self.configuration_version
+    }
+
+    pub fn start_time(&self) -> Option<Moment>
+        ensures { result ≡ self.now.start_time }
+    {
+        self.start_time
+    }
+
+    pub fn end_time(&self) -> Option<Moment>
+        ensures { result ≡ self.now.end_time }
+    {
+        self.end_time
+    }
+
+    /// The producer's timestamp.
+    pub fn stamp(&self) -> Moment
+        ensures { result ≡ self.now.stamp }
+    {
+        self.stamp
+    }
+
+    pub fn producer(&self) -> &Option<Text>
+        ensures { result.now ≡ self.now.producer }
+    {
+        &self.producer
+    }
+
+    pub fn noop(&self) -> Option<bool>
+        ensures { result ≡ self.now.noop }
+    {
+        self.noop
+    }
+
+    pub fn status(&self) -> &Option<Text>
+        ensures { result.now ≡ self.now.status }
+    {
+        &self.status
+    }
+
+    pub fn transaction_uuid(&self) -> &Option<Text>
+        ensures { result.now ≡ self.now.transaction_uuid }
+    {
+        &self.transaction_uuid
     }
 }
 

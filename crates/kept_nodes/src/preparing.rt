@@ -9,6 +9,7 @@ ghost use Rattle.kept_nodes.specs.Seen.{catalog_seen, facts_seen, node_seen, rep
 use crate::kept::{Factset, HeldReport, NodeCatalog};
 use crate::node::Node;
 use crate::places::place_of;
+use crate::reports::place_of_latest;
 use fleet_rows::Entity;
 use std::alloc::{AllocError, Global};
 
@@ -61,7 +62,8 @@ impl Node {
             Entity::Catalogs | Entity::Resources | Entity::Edges => {
                 self.prepare_catalog(alloc, entity)
             }
-            Entity::Nodes | Entity::Reports => self.prepare_reports(alloc),
+            Entity::Nodes => self.prepare_latest(alloc),
+            Entity::Reports => self.prepare_reports(alloc),
             _ => Ok(()),
         }
     }
@@ -92,7 +94,18 @@ impl Node {
         }
     }
 
-    // Computes the hashes of the reports. The node's own row needs them too, since it shows the hash of its latest report.
+    // Computes the hash of the latest report, which the node's own row shows.
+    fn prepare_latest(&mut self, alloc: Global) -> Result<(), AllocError>
+        requires kept { IsNode self.old }
+        ensures seen { node_seen self.new ≡ node_seen self.old }
+        ensures kept { IsNode self.new }
+        ensures before { self.new.before ≡ self.old.before }
+        ensures counts { counts self.new ≡ counts self.old }
+    {
+        prepare_latest(&mut self.reports, alloc)
+    }
+
+    // Computes the hashes of the reports.
     fn prepare_reports(&mut self, alloc: Global) -> Result<(), AllocError>
         requires kept { IsNode self.old }
         ensures seen { node_seen self.new ≡ node_seen self.old }
@@ -135,4 +148,16 @@ fn prepare_reports(reports: &mut Vec<HeldReport>, alloc: Global) -> Result<(), A
         reports[at].prepare(alloc)?;
     }
     Ok(())
+}
+
+fn prepare_latest(reports: &mut Vec<HeldReport>, alloc: Global) -> Result<(), AllocError>
+    requires { AllByRecursion IsReport reports.old.items }
+    ensures seen { map report_seen reports.new.items ≡ map report_seen reports.old.items }
+    ensures kept { AllByRecursion IsReport reports.new.items }
+{
+    if reports.is_empty() {
+        return Ok(());
+    }
+    let at = place_of_latest(reports.as_slice());
+    reports[at].prepare(alloc)
 }

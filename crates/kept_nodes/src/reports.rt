@@ -225,6 +225,20 @@ pub(crate) fn latest(reports: &[HeldReport]) -> Option<&HeldReport>
     latest
 }
 
+/// The index of the report of the greatest rank. Its contract says only that there is such a report.
+pub(crate) fn place_of_latest(reports: &[HeldReport]) -> usize
+    requires some { 0 < length reports.now }
+    ensures place { result < length reports.now }
+{
+    let mut latest = 0;
+    'reports: for at in 1..reports.len() {
+        if is_below(&reports[latest], &reports[at]) {
+            latest = at;
+        }
+    }
+    latest
+}
+
 /// The second report if its rank is greater, otherwise the first.
 fn of_greater_rank<'a>(a: &'a HeldReport, b: &'a HeldReport) -> &'a HeldReport
     ensures { result.now ≡ (if is_below (report_seen a.now) (report_seen b.now) then b.now else a.now) }
