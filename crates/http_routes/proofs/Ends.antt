@@ -10,8 +10,8 @@ use Rattle.routes_spec.proofs.of_plain_laws.Options.{some_is}
 use Rattle.routes_spec.specs.Answers.{error}
 use Rattle.http_routes.specs.declared.link.LinkEnd.{LinkEnd}
 use Rattle.http_routes.specs.declared.link.LinkEnd.TheVariants.{ReadFault, WriteFault}
-use Rattle.http_routes.specs.declared.send.Sent.{Sent}
-use Rattle.http_routes.specs.declared.send.Sent.TheVariants.{Whole, Memory, Failed}
+use Rattle.http_routes.specs.declared.sending.Sent.{Sent}
+use Rattle.http_routes.specs.declared.sending.Sent.TheVariants.{Whole, Memory, Failed}
 use Rattle.http_routes.specs.Course.{IsPart, IsSent, end_behind, end_of, IfFaultAnswer}
 
 -- the link goes on only behind a request that doesn't end it

@@ -18,8 +18,8 @@ use Rattle.http_front.specs.Next.{Gives, IsBad, IsEnded, StopsIn}
 use Rattle.routes_spec.specs.Links.{Stop, whole, cut_off, broken, AreAnsweredBy, written}
 use Rattle.http_routes.specs.declared.link.LinkEnd.{LinkEnd}
 use Rattle.http_routes.specs.declared.link.LinkEnd.TheVariants.{Closed, ReadFault, WriteFault}
-use Rattle.http_routes.specs.declared.send.Sent.{Sent}
-use Rattle.http_routes.specs.declared.send.Sent.TheVariants.{Whole, Memory, Failed}
+use Rattle.http_routes.specs.declared.sending.Sent.{Sent}
+use Rattle.http_routes.specs.declared.sending.Sent.TheVariants.{Whole, Memory, Failed}
 use Rattle.http_routes.specs.Course.{IsPart, IsSent, IfFaultAnswer, answer_in, end_behind, end_of, AreKnown, AreWritten, ServesBy, ServedSoFarBy, GoesOnBy, IsAnsweredBy, IsServedNextBy}
 
 -- ---- bytes

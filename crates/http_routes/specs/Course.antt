@@ -16,8 +16,8 @@ use Rattle.fleet_rows.specs.declared.submitted.Submitted.{Submitted}
 use Rattle.routes_spec.specs.Links.{Stop, whole, cut_off, broken, IsGiven, IsMetBefore, AreAnsweredBy, written}
 use Rattle.http_routes.specs.declared.link.LinkEnd.{LinkEnd}
 use Rattle.http_routes.specs.declared.link.LinkEnd.TheVariants.{Closed, ReadFault, WriteFault}
-use Rattle.http_routes.specs.declared.send.Sent.{Sent}
-use Rattle.http_routes.specs.declared.send.Sent.TheVariants.{Whole, Memory, Failed}
+use Rattle.http_routes.specs.declared.sending.Sent.{Sent}
+use Rattle.http_routes.specs.declared.sending.Sent.TheVariants.{Whole, Memory, Failed}
 use Rattle.http_routes.specs.Moves.{Moves}
 use Rattle.http_spec.specs.Limits.{most_link}
 

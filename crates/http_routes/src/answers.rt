@@ -20,8 +20,8 @@ fn joined(alloc: Global, first: &[u8], second: &[u8], third: &[u8]) -> Result<By
     Ok(Bytes::from_vec(text))
 }
 
-/// The answer with this status code and this error.
-pub(crate) fn error(alloc: Global, ends: bool, code: u16, text: &[u8]) -> Result<Answer, AllocError>
+/// The answer with this status code and this error. `ends` says whether it closes the connection.
+pub fn error(alloc: Global, ends: bool, code: u16, text: &[u8]) -> Result<Answer, AllocError>
     ensures { IfOk result (λ answer. answer ≡ error ends code text.now) }
 {
     Ok(Answer {

@@ -6,8 +6,9 @@
 //! made by `uuid` (RFC 9562).
 //!
 //! A server with other tables for each query answers a request in parts: [`route`] tells what it asks for ([`Routed`]),
-//! [`answer_query`] answers a query, and [`answer_submitted`] a posted command. [`serve_link`] is these in a loop. `specs/Course`
-//! has the course of a connection over any notion of an answer.
+//! [`answer_query`] answers a query, and [`answer_submitted`] a posted command. [`send`] writes an answer, and tells what was
+//! written ([`Sent`]); [`end_of`] tells how the connection goes on. [`serve_link`] is these in a loop. `specs/Course` has the course
+//! of a connection over any notion of an answer.
 //!
 //! What the contract of [`serve_link`] promises:
 //! - At Closed all answers were written, at WriteFault a prefix of them (`served`, `stands`). A submitted command was received
@@ -31,12 +32,13 @@ mod paths;
 mod preparing;
 mod question;
 mod routed;
-mod send;
+mod sending;
 mod told;
 
-pub use answers::answer_submitted;
+pub use answers::{answer_submitted, error};
 pub use ask::answer_query;
 pub use inbox::Inbox;
-pub use link::{LinkEnd, serve_link};
+pub use link::{LinkEnd, end_behind, end_of, serve_link};
 pub use routed::{Routed, route};
 pub use routes_spec::Submitted;
+pub use sending::{Sent, fault_code, fault_text, send, send_memory};

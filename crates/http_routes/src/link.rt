@@ -18,7 +18,7 @@ use crate::answers::{answer_submitted, error};
 use crate::inbox::Inbox;
 use crate::preparing::answer_prepared;
 use crate::routed::{Routed, route};
-use crate::send::{Sent, fault_code, fault_text, send, send_memory};
+use crate::sending::{Sent, fault_code, fault_text, send, send_memory};
 use fleet_ports::{Sink, Source};
 use front_port::Link;
 use http_front::{Incoming, NextRequest, next_request};
@@ -63,8 +63,8 @@ fn answered<I: Inbox + Drop, P: Patterns + Drop>(
     }
 }
 
-// How the connection ends after its last answer.
-fn end_behind(sent: Sent) -> LinkEnd
+/// How a connection ends after its last answer.
+pub fn end_behind(sent: Sent) -> LinkEnd
     ensures { result ≡ end_behind sent }
 {
     match sent {
@@ -73,8 +73,8 @@ fn end_behind(sent: Sent) -> LinkEnd
     }
 }
 
-// How the connection ends after an answer, or None if it stays open.
-fn end_of(sent: Sent, ends: bool) -> Option<LinkEnd>
+/// How a connection ends after an answer, or None if it stays open. `ends` is that of the request.
+pub fn end_of(sent: Sent, ends: bool) -> Option<LinkEnd>
     ensures { result ≡ end_of sent ends }
 {
     match sent {

@@ -1,6 +1,6 @@
 use Rattle.std.proofs.Common.{◌∙◌, sym}
 use Rattle.http_routes.proofs.Ends.{sent_for}
-use Rattle.http_routes.proofs.send.send_answer.Goals as goal
+use Rattle.http_routes.proofs.sending.send_answer.Goals as goal
 
 pub returns-in-Ok-clause-sent : goal.returns-in-Ok-clause-sent
 returns-in-Ok-clause-sent g c = c.send_bytes.ensures.sent c.args.answer.now (sym (c.as_slice.ensures ∙ c.in-Ok.ensures))

@@ -1,6 +1,6 @@
 use Rattle.std.proofs.Common.{refl}
 use Rattle.http_routes.proofs.Ends.{same_counts}
-use Rattle.http_routes.proofs.send.send_memory.Goals as goal
+use Rattle.http_routes.proofs.sending.send_memory.Goals as goal
 
 pub returns-in-All-clause-cause : goal.returns-in-All-clause-cause
 returns-in-All-clause-cause g c = same_counts (g.K.Sink.fault_count c.args.outgoing.now) (g.K.Sink.fault_count c.write_memory_answer.new.link) (λ p. absurd p) (λ h. cc) c.in-All.ensures.cause

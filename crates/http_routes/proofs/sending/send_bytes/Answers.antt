@@ -2,7 +2,7 @@ use Rattle.std.proofs.Common.{refl, subst, sym, inl}
 use Rattle.std.specs.Io.KnownBytes.{Appends}
 use Rattle.http_spec.specs.Answers.{answer_text}
 use Rattle.http_routes.proofs.Ends.{same_counts, part_of}
-use Rattle.http_routes.proofs.send.send_bytes.Goals as goal
+use Rattle.http_routes.proofs.sending.send_bytes.Goals as goal
 
 pub returns-in-All-clause-sent : goal.returns-in-All-clause-sent
 returns-in-All-clause-sent g c = λ answer is. subst (Appends (g.K.Sink.held c.args.outgoing.now) (g.K.Sink.held c.write_all.new.sink)) (sym is) c.in-All.ensures.bytes

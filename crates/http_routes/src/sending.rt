@@ -11,8 +11,8 @@ use http_spec::{Answer, HttpFault};
 use std::alloc::{AllocError, Global};
 
 /// The result of sending an answer.
-#[derive(Clone, Copy)]
-pub(crate) enum Sent {
+#[derive(Clone, Copy, PartialEq, Eq, Debug)]
+pub enum Sent {
     /// The whole answer was sent.
     Whole,
     /// The answer that memory ran out was sent instead.
@@ -22,7 +22,7 @@ pub(crate) enum Sent {
 }
 
 /// Sends the answer that memory ran out.
-pub(crate) fn send_memory<K: Sink + Drop>(outgoing: &mut K) -> Sent
+pub fn send_memory<K: Sink + Drop>(outgoing: &mut K) -> Sent
     ensures sent { IsSent result None (K.held outgoing.old) (K.held outgoing.new) }
     ensures cause { Counts (K.fault_count outgoing.old) (K.fault_count outgoing.new) (result ≡ Sent.Failed) }
 {
@@ -54,7 +54,7 @@ fn send_answer<K: Sink + Drop>(alloc: Global, outgoing: &mut K, answer: &Answer)
 }
 
 /// Sends an answer. If the answer or the memory for its bytes is missing, it sends the answer that memory ran out.
-pub(crate) fn send<K: Sink + Drop>(
+pub fn send<K: Sink + Drop>(
     alloc: Global,
     outgoing: &mut K,
     answer: Result<Answer, AllocError>,
@@ -69,7 +69,7 @@ pub(crate) fn send<K: Sink + Drop>(
 }
 
 /// The text for a fault of the request's head.
-pub(crate) fn fault_text(fault: HttpFault) -> &'static [u8]
+pub fn fault_text(fault: HttpFault) -> &'static [u8]
     ensures { result.now ≡ fault_text fault }
 {
     match fault {
@@ -82,7 +82,7 @@ pub(crate) fn fault_text(fault: HttpFault) -> &'static [u8]
 }
 
 /// The status code for a fault of the request's head.
-pub(crate) fn fault_code(fault: HttpFault) -> u16
+pub fn fault_code(fault: HttpFault) -> u16
     ensures { result ≡ fault_code fault }
 {
     match fault {

@@ -1,6 +1,6 @@
 use Rattle.std.proofs.Common.{subst, sym}
 use Rattle.http_routes.specs.Course.{IsSent, answer_in}
-use Rattle.http_routes.proofs.send.send.Goals as goal
+use Rattle.http_routes.proofs.sending.send.Goals as goal
 
 pub returns-in-Ok-clause-sent : goal.returns-in-Ok-clause-sent
 returns-in-Ok-clause-sent g c =
