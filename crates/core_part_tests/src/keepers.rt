@@ -12,7 +12,7 @@ use fleet_ports::Disk;
 use port_memory::FuseDisk;
 use std::alloc::{AllocError, Global};
 use test_support::{
-    Fault, NO_FAULT, Notes, behind, both, count_of, crashed_disk, file, fused, parted, parts_of,
+    Fault, NO_FAULT, Notes, count_of, crashed_disk, file, fused, gives, parted, parts_of,
     record_of, says, weak_disk,
 };
 
@@ -132,17 +132,17 @@ const UNOPENED: Run = Run {
     second: false,
 };
 
-// Notes an answer: about the sevens, or about a change with this number.
-fn count(run: &mut Run, kept: Option<Kept>, number: Option<u64>) {
+// Notes an answer: about the sevens, or about a change with this number. Where memory lacked, nothing is noted of it here.
+fn count(run: &mut Run, kept: &Result<Option<Kept>, AllocError>, number: Option<u64>) {
     match kept {
-        Some(Kept::Ok) => {
+        Ok(Some(Kept::Ok)) => {
             run.kept = match number {
                 Some(number) => run.kept.wrapping_mul(10).wrapping_add(number),
                 None => 77,
             }
         }
-        Some(Kept::Failed) => run.told = run.told.saturating_add(1),
-        Some(Kept::Down) => run.told = run.told.saturating_add(2),
+        Ok(Some(Kept::Failed)) => run.told = run.told.saturating_add(1),
+        Ok(Some(Kept::Down)) => run.told = run.told.saturating_add(2),
         _ => {}
     }
 }
@@ -166,12 +166,7 @@ fn kept_by<K: Keeper + Drop>(
 }
 
 // One call, whose answer is counted and compared.
-fn call<K: Keeper + Drop>(
-    notes: &mut Notes,
-    keeper: &mut K,
-    run: &mut Run,
-    text: &str,
-) -> Result<(), AllocError>
+fn call<K: Keeper + Drop>(notes: &mut Notes, keeper: &mut K, run: &mut Run, text: &str)
     requires good { K.down keeper.old ≡ false → K.is_up keeper.old }
     ensures good { K.down keeper.new ≡ false → K.is_up keeper.new }
 {
@@ -179,68 +174,38 @@ fn call<K: Keeper + Drop>(
     let (what, wanted) = parted(text, " = ");
     let (word, digit) = parted(what, " ");
     let byte = digit.as_bytes().first().copied().unwrap_or(0);
-    let kept = kept_by(alloc, keeper, word, byte)?;
-    count(run, kept, (word != "renew").then_some(count_of(digit)));
-    says(notes, kept, wanted)
+    let kept = kept_by(alloc, keeper, word, byte);
+    count(run, &kept, (word != "renew").then_some(count_of(digit)));
+    gives(notes, kept, wanted);
 }
 
 // Up to four calls, with commas between them.
-fn calls<K: Keeper + Drop>(
-    notes: &mut Notes,
-    keeper: &mut K,
-    run: &mut Run,
-    text: &str,
-) -> Result<(), AllocError>
+fn calls<K: Keeper + Drop>(notes: &mut Notes, keeper: &mut K, run: &mut Run, text: &str)
     requires good { K.down keeper.old ≡ false → K.is_up keeper.old }
 {
     let ([first, second, third], fourth) = parts_of(text, ", ");
-    call(notes, keeper, run, first)?;
-    call(notes, keeper, run, second)?;
-    call(notes, keeper, run, third)?;
-    call(notes, keeper, run, fourth)
-}
-
-fn all_three(
-    first: Result<(), AllocError>,
-    second: Result<(), AllocError>,
-    third: Result<(), AllocError>,
-) -> Result<(), AllocError> {
-    first?;
-    second?;
-    third
+    call(notes, keeper, run, first);
+    call(notes, keeper, run, second);
+    call(notes, keeper, run, third);
+    call(notes, keeper, run, fourth);
 }
 
 // Compares which file counts, and the numbers of its records.
-fn found<D: Disk + Drop>(
-    notes: &mut Notes,
-    keeper: &LogKeeper<D>,
-    run: &mut Run,
-    wanted: &str,
-) -> Result<(), AllocError> {
+fn found<D: Disk + Drop>(notes: &mut Notes, keeper: &LogKeeper<D>, run: &mut Run, wanted: &str) {
     let side = keeper.side();
     run.second = side == Side::B;
-    says(notes, (side, run.left), wanted)
+    says(notes, (side, run.left), wanted);
 }
 
 // Compares which file counts, whether the keeper is down, and its faults.
-fn stood<D: Disk + Drop>(
-    notes: &mut Notes,
-    keeper: &LogKeeper<D>,
-    run: &mut Run,
-    wanted: &str,
-) -> Result<(), AllocError> {
+fn stood<D: Disk + Drop>(notes: &mut Notes, keeper: &LogKeeper<D>, run: &mut Run, wanted: &str) {
     run.faults = keeper.faults();
-    says(notes, (keeper.side(), keeper.is_down(), run.faults), wanted)
+    says(notes, (keeper.side(), keeper.is_down(), run.faults), wanted);
 }
 
 // Opens a keeper, makes the calls and notes the run. Compared are which file counts and the numbers of its records, or why the files
 // aren't opened; the answers; and which file counts then, whether the keeper is down, and its faults.
-fn session<D: Disk + Drop>(
-    notes: &mut Notes,
-    disks: (D, D),
-    run: &mut Run,
-    text: &str,
-) -> Result<(D, D), AllocError> {
+fn session<D: Disk + Drop>(notes: &mut Notes, disks: (D, D), run: &mut Run, text: &str) -> (D, D) {
     let ([wanted, words, state], _) = parts_of(text, "; ");
     run.left = 0;
     run.second = false;
@@ -250,13 +215,15 @@ fn session<D: Disk + Drop>(
             let mut keeper = keeper;
             run.left = digits(&records);
             drop(records);
-            let found = found(notes, &keeper, run, wanted);
-            let played = calls(notes, &mut keeper, run, words);
-            let stood = stood(notes, &keeper, run, state);
-            let disks = keeper.into_disks();
-            behind(all_three(found, played, stood), disks)
+            found(notes, &keeper, run, wanted);
+            calls(notes, &mut keeper, run, words);
+            stood(notes, &keeper, run, state);
+            keeper.into_disks()
         }
-        Err((why, a, b)) => behind(says(notes, why, wanted), (a, b)),
+        Err((why, a, b)) => {
+            says(notes, why, wanted);
+            (a, b)
+        }
     }
 }
 
@@ -273,19 +240,15 @@ fn has(disk: &mut FuseDisk, bytes: &[u8]) -> bool {
 }
 
 // Compares the first disk, or the second one, with a file.
-fn has_file(
-    notes: &mut Notes,
-    disks: &mut (FuseDisk, FuseDisk),
-    text: &str,
-) -> Result<(), AllocError> {
+fn has_file(notes: &mut Notes, disks: &mut (FuseDisk, FuseDisk), text: &str) {
     let (place, names) = parted(text, " ");
-    let bytes = file(notes.alloc, names)?;
+    let bytes = file(notes, names);
     let same = if place == "a" {
         has(&mut disks.0, bytes.as_slice())
     } else {
         has(&mut disks.1, bytes.as_slice())
     };
-    says(notes, same, "true")
+    says(notes, same, "true");
 }
 
 // Whether the old records or the new ones are there, and the answers had the faults.
@@ -304,39 +267,32 @@ fn crashed(
     disks: (FuseDisk, FuseDisk),
     run: &mut Run,
     fault: Fault,
-) -> Result<(FuseDisk, FuseDisk), AllocError> {
+) -> (FuseDisk, FuseDisk) {
     let (a, b) = disks;
     run.counted = a.faults().saturating_add(b.faults());
     let mut next = NO_FAULT;
     next.image = fault.image;
-    both(
+    (
         crashed_disk(alloc, a, next, 0),
         crashed_disk(alloc, b, next, 1),
     )
 }
 
 // The disks, of which one is compared with a file.
-fn compared(
-    notes: &mut Notes,
-    disks: (FuseDisk, FuseDisk),
-    text: &str,
-) -> Result<(FuseDisk, FuseDisk), AllocError> {
+fn compared(notes: &mut Notes, disks: (FuseDisk, FuseDisk), text: &str) -> (FuseDisk, FuseDisk) {
     let mut disks = disks;
-    let compared = has_file(notes, &mut disks, text);
-    behind(compared, disks)
+    has_file(notes, &mut disks, text);
+    disks
 }
 
 // Opens a keeper, and compares whether it stands as the run says.
-fn standing(
-    notes: &mut Notes,
-    disks: (FuseDisk, FuseDisk),
-    run: &mut Run,
-) -> Result<(FuseDisk, FuseDisk), AllocError> {
+fn standing(notes: &mut Notes, disks: (FuseDisk, FuseDisk), run: &mut Run) -> (FuseDisk, FuseDisk) {
     let mut found = *run;
-    let disks = session(notes, disks, &mut found, "")?;
+    let disks = session(notes, disks, &mut found, "");
     run.left = found.left;
     run.second = found.second;
-    behind(says(notes, stands(run), "true"), disks)
+    says(notes, stands(run), "true");
+    disks
 }
 
 fn part(
@@ -345,10 +301,10 @@ fn part(
     run: &mut Run,
     text: &str,
     fault: Fault,
-) -> Result<(FuseDisk, FuseDisk), AllocError> {
+) -> (FuseDisk, FuseDisk) {
     let (word, rest) = parted(text, " ");
     match word {
-        "" => Ok(disks),
+        "" => disks,
         "crash" => crashed(notes.alloc, disks, run, fault),
         "has" => compared(notes, disks, rest),
         "stands" => standing(notes, disks, run),
@@ -357,26 +313,10 @@ fn part(
 }
 
 // The disk of a file by the names of its records.
-fn disk_of(alloc: Global, names: &str, fault: Fault, place: u64) -> Result<FuseDisk, AllocError> {
-    let bytes = file(alloc, names)?;
-    let disk = weak_disk(alloc, bytes.as_slice(), fault, place)?;
-    Ok(fused(disk, fault, place))
-}
-
-fn two_disks(alloc: Global, files: &str, fault: Fault) -> Result<(FuseDisk, FuseDisk), AllocError> {
-    let (a, b) = parted(files, " ");
-    both(disk_of(alloc, a, fault, 0), disk_of(alloc, b, fault, 1))
-}
-
-fn two_parts(
-    notes: &mut Notes,
-    disks: (FuseDisk, FuseDisk),
-    run: &mut Run,
-    texts: [&str; 2],
-    fault: Fault,
-) -> Result<(FuseDisk, FuseDisk), AllocError> {
-    let disks = part(notes, disks, run, texts[0], fault)?;
-    part(notes, disks, run, texts[1], fault)
+fn disk_of(notes: &mut Notes, names: &str, fault: Fault, place: u64) -> FuseDisk {
+    let bytes = file(notes, names);
+    let disk = weak_disk(notes.alloc, bytes.as_slice(), fault, place);
+    fused(disk, fault, place)
 }
 
 // A trial shows that new records are there which no answer acknowledged, and that the keeper went down.
@@ -387,37 +327,37 @@ fn shown_by(run: &Run) -> u64 {
 
 /// Tries a script over two files, four parts at most: sessions of a keeper, `crash`, `has` with a file that a disk is to hold, and `stands`,
 /// an opening that finds what was acknowledged, or a checkpoint that wasn't.
-pub(crate) fn try_keeper(notes: &mut Notes, script: &str, fault: Fault) -> Result<u64, AllocError> {
+pub(crate) fn try_keeper(notes: &mut Notes, script: &str, fault: Fault) -> u64 {
     let ([files, first, second], rest) = parts_of(script, "/");
     let ([third, fourth, more], _) = parts_of(rest, "/");
-    says(notes, more.is_empty(), "true")?;
+    says(notes, more.is_empty(), "true");
     let mut run = UNOPENED;
-    let disks = two_disks(notes.alloc, files, fault)?;
-    let disks = two_parts(notes, disks, &mut run, [first, second], fault)?;
-    let disks = two_parts(notes, disks, &mut run, [third, fourth], fault)?;
+    let (a, b) = parted(files, " ");
+    let disks = (disk_of(notes, a, fault, 0), disk_of(notes, b, fault, 1));
+    let disks = part(notes, disks, &mut run, first, fault);
+    let disks = part(notes, disks, &mut run, second, fault);
+    let disks = part(notes, disks, &mut run, third, fault);
+    let disks = part(notes, disks, &mut run, fourth, fault);
     drop(disks);
-    Ok(shown_by(&run))
+    shown_by(&run)
 }
 
-// Two numbers of calls; 0 is the number of none.
-fn two_numbers(alloc: Global, list: &str) -> Result<Numbers, AllocError> {
+// Two numbers of calls; 0 is the number of none. Where memory is short, there are fewer.
+fn two_numbers(alloc: Global, list: &str) -> Numbers {
     let (first, second) = parted(list, " ");
     let mut numbers = Numbers::new(alloc);
-    numbers.push(count_of(first))?;
-    numbers.push(count_of(second))?;
-    Ok(numbers)
+    let _ = numbers.push(count_of(first));
+    let _ = numbers.push(count_of(second));
+    numbers
 }
 
 /// Tries a keeper in memory: the numbers of the calls that fail, the calls, and how many there were, the faults, and whether it is down.
-pub(crate) fn try_memory(notes: &mut Notes, script: &str) -> Result<u64, AllocError> {
+pub(crate) fn try_memory(notes: &mut Notes, script: &str) {
     let ([list, words, wanted], _) = parts_of(script, "/");
-    let numbers = two_numbers(notes.alloc, list)?;
-    let mut keeper = MemoryKeeper::new(notes.alloc, numbers);
+    let mut keeper = MemoryKeeper::new(notes.alloc, two_numbers(notes.alloc, list));
     let mut run = UNOPENED;
-    let played = calls(notes, &mut keeper, &mut run, words);
+    calls(notes, &mut keeper, &mut run, words);
     let came = (keeper.calls(), keeper.faults(), keeper.is_down());
     drop(keeper);
-    played?;
-    says(notes, came, wanted)?;
-    Ok(0)
+    says(notes, came, wanted);
 }

@@ -56,7 +56,7 @@ fn fill(alloc: Global, queue: &mut Queue, apart: i64) -> Result<bool, AllocError
 }
 
 // Looks at the list, and compares what is seen.
-fn look(notes: &mut Notes, pending: &Pending, word: &str, wanted: &str) -> Result<(), AllocError> {
+fn look(notes: &mut Notes, pending: &Pending, word: &str, wanted: &str) {
     match word {
         "least" => says(notes, least(pending), wanted),
         "count" => says(notes, count(pending), wanted),
@@ -67,7 +67,7 @@ fn look(notes: &mut Notes, pending: &Pending, word: &str, wanted: &str) -> Resul
 
 // `facts`, `catalog` and `single` add a command of a node's facts or catalog, or of no group, with a stamp and a payload of so many bytes.
 // `fill` adds 262,144 of one group. `mark`, `unmark`, `take` and `fail` stand for a claim, a release, an end and a failure.
-fn answer(notes: &mut Notes, queue: &mut Queue, item: &str) -> Result<(), AllocError> {
+fn answer(notes: &mut Notes, queue: &mut Queue, item: &str) {
     let alloc = notes.alloc;
     let (call, wanted) = parted(item.trim_ascii(), " = ");
     let (word, text) = parted(call, " ");
@@ -82,17 +82,21 @@ fn answer(notes: &mut Notes, queue: &mut Queue, item: &str) -> Result<(), AllocE
     }
 }
 
-/// Plays the words over an empty list.
-pub(crate) fn try_queue(notes: &mut Notes, script: &str) -> Result<u64, AllocError> {
-    let mut queue = Queue::new(notes.alloc);
+fn answer_each(notes: &mut Notes, queue: &mut Queue, script: &str) {
     let mut rest = script;
     'items: for _ in 0..script.len() {
         let (item, more) = parted(rest, ";");
-        answer(notes, &mut queue, item)?;
+        answer(notes, queue, item);
         if more.is_empty() {
-            return Ok(0);
+            return;
         }
         rest = more;
     }
-    Ok(0)
+}
+
+/// Plays the words over an empty list.
+pub(crate) fn try_queue(notes: &mut Notes, script: &str) {
+    let mut queue = Queue::new(notes.alloc);
+    answer_each(notes, &mut queue, script);
+    drop(queue);
 }

@@ -6,7 +6,7 @@ use fleet_ports::Disk;
 use fleet_rows::{Entity, Kind};
 use json_tree::Text;
 use std::alloc::{AllocError, Global};
-use test_support::{Notes, count_of, gives, parted, parts_of, says};
+use test_support::{Notes, count_of, gives, made, parted, parts_of, says};
 
 /// Four commands, each of a node of its own: facts of `a`, `b`, `c` and `d`. The values of `b` are refused.
 static FOUR: [&str; 4] = [
@@ -154,15 +154,17 @@ fn note<D: Disk + Drop, K: Keeper + Drop>(core: &Core<D, K>, told: &mut Told) {
 
 // Submits the four and works, as far as the disks allow: up to the first call that fails, or beyond it.
 fn serve<D: Disk + Drop, K: Keeper + Drop>(
-    alloc: Global,
+    notes: &mut Notes,
     core: &mut Core<D, K>,
     told: &mut Told,
     beyond: bool,
-) -> Result<(), AllocError> {
-    told.taken = send_four(alloc, core, beyond)?;
-    told.ended = ended_then(alloc, core, beyond, told.taken[3] || beyond)?;
+) {
+    let alloc = notes.alloc;
+    let taken = send_four(alloc, core, beyond);
+    told.taken = made(notes, taken, [false; 4]);
+    let ended = ended_then(alloc, core, beyond, told.taken[3] || beyond);
+    told.ended = made(notes, ended, 0);
     note(core, told);
-    Ok(())
 }
 
 fn counts<D: Disk + Drop, K: Keeper + Drop>(core: &Core<D, K>) -> [u64; 4] {
@@ -246,12 +248,11 @@ fn work_often<D: Disk + Drop, K: Keeper + Drop>(
     core: &mut Core<D, K>,
     times: u64,
     wanted: &str,
-) -> Result<(), AllocError> {
+) {
     for _ in 0..times {
         let came = work(notes.alloc, core);
-        gives(notes, came, wanted)?;
+        gives(notes, came, wanted);
     }
-    Ok(())
 }
 
 // The calls of a core, in functions that ensure nothing.
@@ -305,7 +306,7 @@ fn look<D: Disk + Drop, K: Keeper + Drop>(
     told: &mut Told,
     call: &str,
     wanted: &str,
-) -> Result<(), AllocError> {
+) {
     let (word, text) = parted(call, " ");
     match word {
         "tally" => says(notes, counts(core), wanted),
@@ -315,7 +316,7 @@ fn look<D: Disk + Drop, K: Keeper + Drop>(
         "down" => says(notes, down_by(core), wanted),
         _ => {
             let fact = is_so(notes.alloc, core, told, word, text);
-            gives(notes, fact, wanted)
+            gives(notes, fact, wanted);
         }
     }
 }
@@ -333,7 +334,7 @@ pub(crate) fn answer<D: Disk + Drop, K: Keeper + Drop>(
     core: &mut Core<D, K>,
     told: &mut Told,
     item: &str,
-) -> Result<(), AllocError> {
+) {
     let alloc = notes.alloc;
     let (call, wanted) = parted(item.trim_ascii(), " = ");
     let (word, text) = parted(call, " ");
@@ -341,8 +342,8 @@ pub(crate) fn answer<D: Disk + Drop, K: Keeper + Drop>(
         "send" => gives(notes, send_facts(alloc, core, text), wanted),
         "raw" => gives(notes, send(alloc, core, text), wanted),
         "four" => gives(notes, send_four(alloc, core, true), wanted),
-        "serve" => serve(alloc, core, told, true),
-        "firmly" => serve(alloc, core, told, false),
+        "serve" => serve(notes, core, told, true),
+        "firmly" => serve(notes, core, told, false),
         "work" => work_often(notes, core, count_of(text), wanted),
         "drain" => gives(notes, turns(alloc, core, false), wanted),
         "late" => gives(notes, work_late(alloc, core), wanted),

@@ -5,9 +5,9 @@ use fleet_keeper::LogKeeper;
 use fleet_ports::{Disk, Disks};
 use fleet_rows::Ttls;
 use port_memory::{FuseDisk, MemoryDisk};
-use std::alloc::{AllocError, Global};
+use std::alloc::Global;
 use test_support::{
-    Fault, NO_FAULT, Notes, behind, crashed_disks, fused_disks, numbers_of, parted, parts_of, says,
+    Fault, NO_FAULT, Notes, crashed_disks, fused_disks, numbers_of, parted, parts_of, says,
     weak_disks,
 };
 
@@ -23,10 +23,11 @@ fn lay(alloc: Global, disks: &mut Disks<MemoryDisk>) -> bool {
 }
 
 // Disks on which the files were laid; then one of them may stop.
-fn laid(notes: &mut Notes, fault: Fault) -> Result<Disks<FuseDisk>, AllocError> {
-    let mut disks = weak_disks(notes.alloc, b"", b"", fault)?;
+fn laid(notes: &mut Notes, fault: Fault) -> Disks<FuseDisk> {
+    let mut disks = weak_disks(notes.alloc, b"", b"", fault);
     let laid = lay(notes.alloc, &mut disks);
-    behind(says(notes, laid, "true"), fused_disks(disks, fault))
+    says(notes, laid, "true");
+    fused_disks(disks, fault)
 }
 
 // A core over the files, or the disks. No function above needs what an opening ensures.
@@ -67,21 +68,16 @@ fn answer_each<D: Disk + Drop>(
     core: &mut Core<D, LogKeeper<D>>,
     told: &mut Told,
     text: &str,
-) -> Result<(), AllocError> {
+) {
     let mut rest = text.trim_start_matches('?');
     'items: for _ in 0..text.len() {
         let (item, more) = parted(rest, ";");
-        answer(notes, core, told, item)?;
+        answer(notes, core, told, item);
         if more.is_empty() {
-            return Ok(());
+            return;
         }
         rest = more;
     }
-    Ok(())
-}
-
-fn unopened(notes: &mut Notes, text: &str) -> Result<(), AllocError> {
-    says(notes, text.starts_with('?'), "true")
 }
 
 // Opens the files, and does what the words say. If the text begins with `?`, the opening may fail.
@@ -90,15 +86,17 @@ fn session<D: Disk + Drop>(
     disks: Disks<D>,
     told: &mut Told,
     text: &str,
-) -> Result<Disks<D>, AllocError> {
+) -> Disks<D> {
     match opened(notes.alloc, disks) {
         Ok(core) => {
             let mut core = core;
-            let played = answer_each(notes, &mut core, told, text);
-            let disks = core.into_disks();
-            behind(played, disks)
+            answer_each(notes, &mut core, told, text);
+            core.into_disks()
         }
-        Err(disks) => behind(unopened(notes, text), disks),
+        Err(disks) => {
+            says(notes, text.starts_with('?'), "true");
+            disks
+        }
     }
 }
 
@@ -123,10 +121,10 @@ fn part(
     told: &mut Told,
     text: &str,
     fault: Fault,
-) -> Result<Disks<FuseDisk>, AllocError> {
+) -> Disks<FuseDisk> {
     let text = text.trim_ascii();
     if text.is_empty() {
-        return Ok(disks);
+        return disks;
     }
     match text.strip_prefix("crash") {
         Some(rest) => crashed_disks(notes.alloc, disks, fault_behind(rest.trim_ascii(), fault)),
@@ -140,10 +138,10 @@ fn three_parts(
     told: &mut Told,
     texts: [&str; 3],
     fault: Fault,
-) -> Result<Disks<FuseDisk>, AllocError> {
+) -> Disks<FuseDisk> {
     let [first, second, third] = texts;
-    let disks = part(notes, disks, told, first, fault)?;
-    let disks = part(notes, disks, told, second, fault)?;
+    let disks = part(notes, disks, told, first, fault);
+    let disks = part(notes, disks, told, second, fault);
     part(notes, disks, told, third, fault)
 }
 
@@ -166,16 +164,16 @@ fn shown_by(told: &Told) -> u64 {
 }
 
 /// Tries a script over laid disks: nine sessions and crashes at most, with `/` between them.
-pub(crate) fn try_core(notes: &mut Notes, script: &str, fault: Fault) -> Result<u64, AllocError> {
+pub(crate) fn try_core(notes: &mut Notes, script: &str, fault: Fault) -> u64 {
     let (first, rest) = parts_of(script, "/");
     let (second, rest) = parts_of(rest, "/");
     let (third, more) = parts_of(rest, "/");
-    says(notes, more.is_empty(), "true")?;
+    says(notes, more.is_empty(), "true");
     let mut told = SILENCE;
-    let disks = laid(notes, fault)?;
-    let disks = three_parts(notes, disks, &mut told, first, fault)?;
-    let disks = three_parts(notes, disks, &mut told, second, fault)?;
-    let disks = three_parts(notes, disks, &mut told, third, fault)?;
+    let disks = laid(notes, fault);
+    let disks = three_parts(notes, disks, &mut told, first, fault);
+    let disks = three_parts(notes, disks, &mut told, second, fault);
+    let disks = three_parts(notes, disks, &mut told, third, fault);
     drop(disks);
-    Ok(shown_by(&told))
+    shown_by(&told)
 }

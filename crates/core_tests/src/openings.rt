@@ -5,8 +5,8 @@ use fleet_keeper::LogKeeper;
 use fleet_ports::{Disk, Disks};
 use fleet_rows::Entity;
 use port_memory::MemoryDisk;
-use std::alloc::{AllocError, Global};
-use test_support::{Fault, Notes, behind, file, parted, parts_of, says, weak_disks};
+use std::alloc::Global;
+use test_support::{Fault, Notes, file, parted, parts_of, says, weak_disks};
 
 // The parts of a core over the files, or the disks. No function above needs what an opening ensures.
 fn opened<D: Disk + Drop>(
@@ -41,57 +41,45 @@ fn found_core<D: Disk + Drop>(
     notes: &mut Notes,
     core: CoreState<D, LogKeeper<D>>,
     wanted: &str,
-) -> Result<Disks<D>, AllocError> {
-    let compared = says(notes, counted(&core), wanted);
-    behind(compared, disks_in(core))
-}
-
-fn found_fault<D: Disk + Drop>(
-    notes: &mut Notes,
-    why: OpenCoreFault,
-    disks: Disks<D>,
-    wanted: &str,
-) -> Result<Disks<D>, AllocError> {
-    behind(says(notes, why, wanted), disks)
+) -> Disks<D> {
+    says(notes, counted(&core), wanted);
+    disks_in(core)
 }
 
 // Opens the files, and compares what is found, or why they aren't opened.
-fn found<D: Disk + Drop>(
-    notes: &mut Notes,
-    disks: Disks<D>,
-    wanted: &str,
-) -> Result<Disks<D>, AllocError> {
+fn found<D: Disk + Drop>(notes: &mut Notes, disks: Disks<D>, wanted: &str) -> Disks<D> {
     match opened(notes.alloc, disks) {
         Ok(core) => found_core(notes, core, wanted),
-        Err((why, disks)) => found_fault(notes, why, disks, wanted),
+        Err((why, disks)) => {
+            says(notes, why, wanted);
+            disks
+        }
     }
 }
 
 // The same, where there is a text.
-fn found_again(
-    notes: &mut Notes,
-    disks: Disks<MemoryDisk>,
-    wanted: &str,
-) -> Result<Disks<MemoryDisk>, AllocError> {
+fn found_again(notes: &mut Notes, disks: Disks<MemoryDisk>, wanted: &str) -> Disks<MemoryDisk> {
     if wanted.is_empty() {
-        return Ok(disks);
+        disks
+    } else {
+        found(notes, disks, wanted)
     }
-    found(notes, disks, wanted)
+}
+
+// Disks with the files of a queue and a store, by the names of their records.
+fn disks_of(notes: &mut Notes, files: &str, fault: Fault) -> Disks<MemoryDisk> {
+    let (queue, store) = parted(files, " ");
+    let queue = file(notes, queue);
+    let store = file(notes, store);
+    weak_disks(notes.alloc, queue.as_slice(), store.as_slice(), fault)
 }
 
 /// Opens the files of a queue and a store, by the names of their records, and compares what is found, once or twice.
-pub(crate) fn try_opening(
-    notes: &mut Notes,
-    script: &str,
-    fault: Fault,
-) -> Result<u64, AllocError> {
+pub(crate) fn try_opening(notes: &mut Notes, script: &str, fault: Fault) -> u64 {
     let ([files, first, second], _) = parts_of(script, "/");
-    let (queue, store) = parted(files, " ");
-    let queue = file(notes.alloc, queue)?;
-    let store = file(notes.alloc, store)?;
-    let disks = weak_disks(notes.alloc, queue.as_slice(), store.as_slice(), fault)?;
-    let disks = found(notes, disks, first)?;
-    let disks = found_again(notes, disks, second)?;
+    let disks = disks_of(notes, files, fault);
+    let disks = found(notes, disks, first);
+    let disks = found_again(notes, disks, second);
     drop(disks);
-    Ok(0)
+    0
 }

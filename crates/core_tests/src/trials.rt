@@ -9,13 +9,7 @@ use test_support::{Fault, Notes, Trial, tried};
 struct Cores;
 
 impl Trial for Cores {
-    fn try_one(
-        &self,
-        notes: &mut Notes,
-        kind: &str,
-        script: &str,
-        fault: Fault,
-    ) -> Result<u64, AllocError> {
+    fn try_one(&self, notes: &mut Notes, kind: &str, script: &str, fault: Fault) -> u64 {
         match kind {
             "opening" => try_opening(notes, script, fault),
             _ => try_core(notes, script, fault),

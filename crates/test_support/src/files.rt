@@ -25,9 +25,17 @@ fn empty(alloc: Global) -> Files {
     }
 }
 
+// Leaves no byte.
+fn clear(files: &mut Files) {
+    files.queue_a.clear();
+    files.queue_b.clear();
+    files.store_a.clear();
+    files.store_b.clear();
+}
+
 // Makes these files those that `init` lays.
-fn lay(alloc: Global, files: &mut Files) -> Result<(), AllocError> {
-    *files = empty(alloc);
+fn lay(files: &mut Files) -> Result<(), AllocError> {
+    clear(files);
     add_bytes(&mut files.queue_a, LAID_QUEUE)?;
     add_bytes(&mut files.store_a, LAID_STORE)
 }
@@ -70,8 +78,8 @@ pub fn numbers(alloc: Global, first: u64, count: u64) -> Numbers {
     numbers
 }
 
-// The bytes in a place of their own. Where memory is short, there are none.
-fn copy_of(alloc: Global, bytes: &[u8]) -> Bytes {
+/// The bytes in a place of their own. Where memory is short, there are none.
+pub(crate) fn copy_of(alloc: Global, bytes: &[u8]) -> Bytes {
     match Bytes::from_slice(alloc, bytes) {
         Ok(bytes) => bytes,
         Err(_) => Bytes::from_vec(Vec::new(alloc)),
@@ -207,15 +215,15 @@ impl Stored {
     ) -> Result<Option<bool>, AllocError> {
         match word {
             "files" => {
-                lay(alloc, &mut self.files)?;
-                lay(alloc, &mut self.wanted)?;
+                lay(&mut self.files)?;
+                lay(&mut self.wanted)?;
             }
             "put" => {
                 add_to(&mut self.files, text)?;
                 add_to(&mut self.wanted, text)?;
             }
             "want" => add_to(&mut self.wanted, text)?,
-            "laid" => lay(alloc, &mut self.wanted)?,
+            "laid" => lay(&mut self.wanted)?,
             "turned" => {
                 follow(&mut self.wanted.queue_a, self.wanted.queue_b.as_slice())?;
                 follow(&mut self.wanted.store_a, self.wanted.store_b.as_slice())?;

@@ -58,6 +58,12 @@ impl Given {
         self.spool.bytes.clear();
     }
 
+    /// Appends bytes to the spool.
+    pub(crate) fn add_to_spool(&mut self, bytes: &[u8]) -> Result<bool, AllocError> {
+        self.spool.bytes.extend_from_slice(bytes)?;
+        Ok(true)
+    }
+
     // Gives numbers, as `spool=1 out=2`.
     pub(crate) fn set(&mut self, text: &str) -> Result<(), AllocError> {
         self.settings.push(' ')?;
@@ -77,7 +83,7 @@ impl Given {
                 let bytes = Bytes::from_vec(bytes_of(alloc, text)?);
                 self.links.push_back(bytes)?;
             }
-            _ => return self.spool.step(word, text),
+            _ => return self.spool.step(alloc, word, text),
         }
         Ok(true)
     }

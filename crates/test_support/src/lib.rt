@@ -31,12 +31,12 @@ pub use faults::{
 };
 pub use files::{Stored, numbers};
 pub use given::Given;
-pub use notes::{Notes, behind, both, count_of, gives, numbers_of, parts_of, says};
+pub use notes::{Notes, count_of, gives, made, numbers_of, parts_of, says};
 pub use pieces::{Pieces, Room};
 pub use records::{file, record_of};
-pub use rounds::{Rounds, rounds_of, scenarios_of, turns_of};
+pub use rounds::{Rounds, add_text, rounds_of, scenarios_of, turns_of};
 pub use script::Script;
-pub use texts::{add_bytes, add_line, bytes_of, number_of, parted};
+pub use texts::{add_bytes, add_line, add_words, bytes_of, number_of, parted};
 pub use told::{Told, code_of};
 pub use trials::{Trial, tried};
 pub use words::{query_of, words_of};

@@ -1,5 +1,6 @@
 //! Parts of a case, and notes of the answers that are others than a case has them.
 use crate::texts::parted;
+use itoa::Buffer;
 use std::alloc::{AllocError, Global};
 use std::fmt::Debug;
 
@@ -29,14 +30,31 @@ pub fn parts_of<'a>(text: &'a str, mark: &str) -> ([&'a str; 3], &'a str) {
     ([first, second, third], rest)
 }
 
-/// What the answers so far lack, and which trial of which case goes on.
+/// What the answers so far lack, and which trial of which case goes on. A trial goes on where memory lacks, and that is noted: so what
+/// tries a case has no result.
 #[derive(Drop)]
 pub struct Notes {
     pub alloc: Global,
     pub text: String,
+    /// Whether memory lacked.
+    pub is_starved: bool,
     pub case: usize,
     pub call: u64,
     pub variant: u64,
+}
+
+// Appends a word and a number.
+fn put(text: &mut String, word: &str, number: u64) -> Result<(), AllocError> {
+    text.push_str(word)?;
+    text.push_str(Buffer::new().format(number))
+}
+
+fn put_answer(text: &mut String, said: &str, wanted: &str) -> Result<(), AllocError> {
+    text.push_str(": ")?;
+    text.push_str(said)?;
+    text.push_str(" for ")?;
+    text.push_str(wanted)?;
+    text.push('\n')
 }
 
 impl Notes {
@@ -44,58 +62,56 @@ impl Notes {
         Notes {
             alloc,
             text: String::new(alloc),
+            is_starved: false,
             case: 0,
             call: 0,
             variant: 0,
         }
     }
 
+    // Appends a line for an answer.
+    fn tell(&mut self, said: &str, wanted: &str) -> Result<(), AllocError> {
+        put(&mut self.text, "case ", self.case as u64)?;
+        put(&mut self.text, ", call ", self.call)?;
+        put(&mut self.text, ", variant ", self.variant)?;
+        put_answer(&mut self.text, said, wanted)
+    }
+
     /// Compares an answer with the text of the case. An empty text takes each.
-    pub fn compare(&mut self, said: &str, wanted: &str) -> Result<(), AllocError> {
-        if wanted.is_empty() || said == wanted {
-            return Ok(());
+    pub fn compare(&mut self, said: &str, wanted: &str) {
+        if !wanted.is_empty() && said != wanted && self.tell(said, wanted).is_err() {
+            self.is_starved = true;
         }
-        let alloc = self.alloc;
-        let line = format!(in alloc;
-            "case {}, call {}, variant {}: {said} for {wanted}\n",
-            self.case, self.call, self.variant
-        )?;
-        self.text.push_str(line.as_str())
     }
 }
 
 /// Compares an answer, as it is printed, with the text of the case.
-pub fn says<T: Debug + Drop>(notes: &mut Notes, answer: T, wanted: &str) -> Result<(), AllocError> {
+pub fn says<T: Debug + Drop>(notes: &mut Notes, answer: T, wanted: &str) {
     let alloc = notes.alloc;
-    let said = format!(in alloc; "{answer:?}")?;
-    notes.compare(said.as_str(), wanted)
+    match format!(in alloc; "{answer:?}") {
+        Ok(said) => notes.compare(said.as_str(), wanted),
+        Err(_) => notes.is_starved = true,
+    }
 }
 
 /// Compares the answer of a call that found memory.
-pub fn gives<T: Debug + Drop>(
-    notes: &mut Notes,
-    answer: Result<T, AllocError>,
-    wanted: &str,
-) -> Result<(), AllocError> {
+pub fn gives<T: Debug + Drop>(notes: &mut Notes, answer: Result<T, AllocError>, wanted: &str) {
     match answer {
         Ok(answer) => says(notes, answer, wanted),
-        Err(fault) => Err(fault),
+        Err(_) => notes.is_starved = true,
     }
 }
 
-/// The value behind a call that found memory.
-pub fn behind<T: Drop>(played: Result<(), AllocError>, value: T) -> Result<T, AllocError> {
-    match played {
-        Ok(()) => Ok(value),
-        Err(fault) => Err(fault),
+/// What was made, or the other value where memory lacked.
+pub fn made<T: Drop>(notes: &mut Notes, made: Result<T, AllocError>, other: T) -> T {
+    match made {
+        Ok(value) => {
+            drop(other);
+            value
+        }
+        Err(_) => {
+            notes.is_starved = true;
+            other
+        }
     }
-}
-
-/// Both values, where both are there.
-pub fn both<T: Drop>(
-    first: Result<T, AllocError>,
-    second: Result<T, AllocError>,
-) -> Result<(T, T), AllocError> {
-    let first = first?;
-    Ok((first, second?))
 }

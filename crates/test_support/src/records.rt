@@ -1,5 +1,5 @@
 //! Files by the names of their records.
-use crate::notes::count_of;
+use crate::notes::{Notes, count_of, made};
 use crate::texts::parted;
 use std::alloc::{AllocError, Global};
 
@@ -83,22 +83,23 @@ fn add_record(alloc: Global, file: &mut Vec<u8>, name: u8, digit: u8) -> Result<
     add_frame(file, text.as_slice())
 }
 
-fn letter_at(names: &[u8], at: usize) -> u8 {
-    names.get(at).copied().unwrap_or(b'-')
-}
-
 // Adds a frame for each record: its name and its digit.
 fn add_frames(alloc: Global, file: &mut Vec<u8>, names: &[u8]) -> Result<(), AllocError> {
-    'records: for at in 0..names.len() / 2 {
-        let first = at.wrapping_mul(2);
-        let digit = letter_at(names, first.wrapping_add(1));
-        add_record(alloc, file, letter_at(names, first), digit)?;
+    let mut rest = names;
+    'records: for _ in 0..names.len() {
+        match rest {
+            [name, digit, more @ ..] => {
+                add_record(alloc, file, *name, *digit)?;
+                rest = more;
+            }
+            _ => break,
+        }
     }
     Ok(())
 }
 
-/// A log file with these records: of generation 1, or of that before `:`. Behind `=` stand the bytes of a file that is none.
-pub fn file(alloc: Global, text: &str) -> Result<Vec<u8>, AllocError> {
+// A log file with these records.
+fn file_of(alloc: Global, text: &str) -> Result<Vec<u8>, AllocError> {
     if let Some(bytes) = text.strip_prefix('=') {
         return bytes.as_bytes().to_vec(alloc);
     }
@@ -108,4 +109,12 @@ pub fn file(alloc: Global, text: &str) -> Result<Vec<u8>, AllocError> {
     add_frames(alloc, &mut file, names.as_bytes())?;
     file.push(0)?;
     Ok(file)
+}
+
+/// A log file with these records: of generation 1, or of that before `:`. Behind `=` stand the bytes of a file that is none. Where memory
+/// lacks, that is noted, and the file is empty.
+pub fn file(notes: &mut Notes, text: &str) -> Vec<u8> {
+    let alloc = notes.alloc;
+    let file = file_of(alloc, text);
+    made(notes, file, Vec::new(alloc))
 }

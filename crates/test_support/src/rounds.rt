@@ -1,43 +1,58 @@
 //! The scenarios of a text, and the rounds of each.
-use crate::texts::{number_of, parted};
+use crate::texts::{number_of, parted, replaced};
 use itoa::Buffer;
 use std::alloc::{AllocError, Global};
 
-// Appends the numbers of a list such as `0,2..5`, of which the end of a range is left out.
-fn add_numbers(numbers: &mut Vec<u64>, list: &str) -> Result<(), AllocError> {
-    for span in list.split(',') {
-        let (first, end) = span.split_once("..").unwrap_or((span, ""));
-        let first = number_of(first);
-        let end = if end.is_empty() {
-            first.saturating_add(1)
-        } else {
-            number_of(end)
-        };
-        for number in first..end {
-            numbers.push(number)?;
-        }
+// The first number of a span such as `2..5` or `2`, and the one behind its last.
+fn ends_of(span: &str) -> (u64, u64) {
+    let (first, end) = parted(span, "..");
+    let first = number_of(first);
+    if end.is_empty() {
+        (first, first.saturating_add(1))
+    } else {
+        (first, number_of(end))
+    }
+}
+
+fn add_span(numbers: &mut Vec<u64>, span: &str) -> Result<(), AllocError> {
+    let (first, end) = ends_of(span);
+    for number in first..end {
+        numbers.push(number)?;
     }
     Ok(())
 }
 
-// The numbers that the scenario gives this name, as `<disk>=0..4`, and 0 alone where it gives none.
-fn numbers_of(alloc: Global, scenario: &str, name: &str) -> Result<Vec<u64>, AllocError> {
-    let mut numbers = Vec::new(alloc);
-    for part in scenario.split_ascii_whitespace() {
-        match part.split_once('=') {
-            Some((key, list)) if key == name => add_numbers(&mut numbers, list)?,
-            _ => {}
+// Appends the numbers of a list such as `0,2..5`, of which the end of a range is left out.
+fn add_numbers(numbers: &mut Vec<u64>, list: &str) -> Result<(), AllocError> {
+    let mut rest = list;
+    'spans: for _ in 0..list.len() {
+        let (span, more) = parted(rest, ",");
+        add_span(numbers, span)?;
+        if more.is_empty() {
+            break;
         }
+        rest = more;
     }
-    if numbers.is_empty() {
-        numbers.push(0)?;
-    }
+    Ok(())
+}
+
+// The list that the scenario gives this name, as ` <disk>=0..4`; nothing where it gives none.
+fn list_of<'a>(scenario: &'a str, name: &str) -> &'a str {
+    let (_, behind) = parted(scenario, name);
+    let (line, _) = parted(behind, "\n");
+    parted(line, " ").0
+}
+
+// The numbers of the list, and 0 alone where it has none.
+fn numbers_of(alloc: Global, list: &str) -> Result<Vec<u64>, AllocError> {
+    let mut numbers = Vec::new(alloc);
+    add_numbers(&mut numbers, if list.is_empty() { "0" } else { list })?;
     Ok(numbers)
 }
 
 // The text with the number in the places of the mark.
 fn filled(alloc: Global, text: &str, mark: &str, number: u64) -> Result<String, AllocError> {
-    text.replace(alloc, mark, Buffer::new().format(number))
+    replaced(alloc, text, mark, Buffer::new().format(number))
 }
 
 // Appends the text once for each of the numbers, which stands in the places of the mark.
@@ -54,14 +69,14 @@ fn add_filled(
     Ok(())
 }
 
-// Each of the texts with each of the numbers that the scenario gives the mark.
+// Each of the texts with each of the numbers of the list in the places of the mark.
 fn each_filled(
     alloc: Global,
     texts: &[String],
-    scenario: &str,
+    list: &str,
     mark: &str,
 ) -> Result<Vec<String>, AllocError> {
-    let numbers = numbers_of(alloc, scenario, mark)?;
+    let numbers = numbers_of(alloc, list)?;
     let mut all = Vec::new(alloc);
     for text in texts {
         add_filled(alloc, &mut all, text.as_str(), mark, numbers.as_slice())?;
@@ -73,9 +88,39 @@ fn each_filled(
 pub fn rounds_of(alloc: Global, scenario: &str) -> Result<Vec<String>, AllocError> {
     let mut texts = Vec::new(alloc);
     texts.push(String::from_str(alloc, scenario)?)?;
-    let texts = each_filled(alloc, texts.as_slice(), scenario, "<disk>")?;
-    let texts = each_filled(alloc, texts.as_slice(), scenario, "<call>")?;
-    each_filled(alloc, texts.as_slice(), scenario, "<image>")
+    let disks = list_of(scenario, " <disk>=");
+    let texts = each_filled(alloc, texts.as_slice(), disks, "<disk>")?;
+    let calls = list_of(scenario, " <call>=");
+    let texts = each_filled(alloc, texts.as_slice(), calls, "<call>")?;
+    let images = list_of(scenario, " <image>=");
+    each_filled(alloc, texts.as_slice(), images, "<image>")
+}
+
+// The head and the scenario.
+fn under(alloc: Global, head: &str, scenario: &str) -> Result<String, AllocError> {
+    let mut text = String::new(alloc);
+    add_text(&mut text, head)?;
+    text.push_str(scenario)?;
+    Ok(text)
+}
+
+// Appends each scenario with each of the heads in front.
+fn add_all(
+    alloc: Global,
+    all: &mut Vec<String>,
+    heads: &str,
+    scenarios: &str,
+) -> Result<(), AllocError> {
+    let mut rest = heads;
+    'heads: for _ in 0..heads.len().saturating_add(1) {
+        let (head, more) = parted(rest, "\n\n");
+        add_scenarios(alloc, all, head, scenarios)?;
+        if more.is_empty() {
+            break;
+        }
+        rest = more;
+    }
+    Ok(())
 }
 
 // Appends each scenario with the head in front.
@@ -85,8 +130,14 @@ fn add_scenarios(
     head: &str,
     scenarios: &str,
 ) -> Result<(), AllocError> {
-    for part in scenarios.split("\n\n") {
-        all.push(format!(in alloc; "{head}\n{part}")?)?;
+    let mut rest = scenarios;
+    'scenarios: for _ in 0..scenarios.len().saturating_add(1) {
+        let (part, more) = parted(rest, "\n\n");
+        all.push(under(alloc, head, part)?)?;
+        if more.is_empty() {
+            break;
+        }
+        rest = more;
     }
     Ok(())
 }
@@ -102,24 +153,26 @@ pub fn scenarios_of(
     heads: &str,
     scenarios: &str,
 ) -> Result<Vec<String>, AllocError> {
-    let heads = heads.replace(alloc, "\\\n", "")?;
-    let lines = scenarios.replace(alloc, "\\\n", "")?;
+    let heads = replaced(alloc, heads, "\\\n", "")?;
+    let lines = replaced(alloc, scenarios, "\\\n", "")?;
     let mut all = Vec::new(alloc);
-    for head in heads.as_str().split("\n\n") {
-        add_scenarios(alloc, &mut all, head, lines.as_str())?;
-    }
+    add_all(alloc, &mut all, heads.as_str(), lines.as_str())?;
     Ok(all)
 }
 
 /// The lines once for each of the words that one of them names behind `for`, which stands for `<it>`; once where none does.
 pub fn turns_of(alloc: Global, lines: &str) -> Result<Vec<String>, AllocError> {
     let mut turns = Vec::new(alloc);
-    let words = match lines.split_once("\nfor ") {
-        Some((_, rest)) => parted(rest, "\n").0,
-        None => "",
-    };
-    for word in words.split(' ') {
-        turns.push(lines.replace(alloc, "<it>", word)?)?;
+    let (_, behind) = parted(lines, "\nfor ");
+    let (words, _) = parted(behind, "\n");
+    let mut rest = words;
+    'words: for _ in 0..words.len().saturating_add(1) {
+        let (word, more) = parted(rest, " ");
+        turns.push(replaced(alloc, lines, "<it>", word)?)?;
+        if more.is_empty() {
+            break;
+        }
+        rest = more;
     }
     Ok(turns)
 }
@@ -127,13 +180,45 @@ pub fn turns_of(alloc: Global, lines: &str) -> Result<Vec<String>, AllocError> {
 // The outcomes that the scenario lists.
 fn listed(alloc: Global, scenario: &str) -> Result<String, AllocError> {
     let mut outcomes = String::new(alloc);
-    for line in scenario.split('\n') {
-        if let Some(text) = line.strip_prefix("outcome ") {
-            outcomes.push_str(text)?;
-            outcomes.push('\n')?;
+    let (_, mut rest) = parted(scenario, "\noutcome ");
+    'outcomes: for _ in 0..scenario.len() {
+        if rest.is_empty() {
+            break;
         }
+        let (text, more) = parted(rest, "\n");
+        outcomes.push_str(text)?;
+        outcomes.push('\n')?;
+        rest = more.strip_prefix("outcome ").unwrap_or("");
     }
     Ok(outcomes)
+}
+
+// Whether the log is one of the outcomes.
+fn is_listed(outcomes: &str, log: &str) -> bool {
+    let mut rest = outcomes;
+    'lines: for _ in 0..outcomes.len() {
+        let (line, more) = parted(rest, "\n");
+        if line == log {
+            return true;
+        }
+        rest = more;
+    }
+    false
+}
+
+// Whether the outcomes are those that are listed. `any one` stands for a single outcome.
+fn are_outcomes(outcomes: &str, listed: &str) -> bool {
+    if listed == "any one\n" {
+        let (line, more) = parted(outcomes, "\n");
+        return more.is_empty() && !line.is_empty();
+    }
+    outcomes == listed
+}
+
+/// Appends the text and a line end.
+pub fn add_text(text: &mut String, line: &str) -> Result<(), AllocError> {
+    text.push_str(line)?;
+    text.push('\n')
 }
 
 /// What came of the rounds.
@@ -157,25 +242,21 @@ impl Rounds {
 
     /// Adds the log of a round to the outcomes, where it isn't one of them.
     pub fn add_outcome(&mut self, log: &str) -> Result<(), AllocError> {
-        for line in self.outcomes.as_str().split('\n') {
-            if line == log {
-                return Ok(());
-            }
+        if log.is_empty() || is_listed(self.outcomes.as_str(), log) {
+            return Ok(());
         }
-        self.outcomes.push_str(log)?;
-        self.outcomes.push('\n')
+        add_text(&mut self.outcomes, log)
     }
 
-    // Compares what the rounds came to with what is listed. `any one` stands for a single outcome.
+    // Compares what the rounds came to with what is listed.
     fn compare(&mut self, scenario: &str, listed: &str) -> Result<(), AllocError> {
-        let outcomes = self.outcomes.as_str();
-        let is_one = listed == "any one\n" && outcomes.split('\n').count() == 2;
-        if !is_one && outcomes != listed {
-            self.wrong.push_str(scenario)?;
-            self.wrong.push_str("\nthe rounds came to:\n")?;
-            self.wrong.push_str(outcomes)?;
+        if are_outcomes(self.outcomes.as_str(), listed) {
+            return Ok(());
         }
-        Ok(())
+        let wrong = &mut self.wrong;
+        add_text(wrong, scenario)?;
+        add_text(wrong, "the rounds came to:")?;
+        wrong.push_str(self.outcomes.as_str())
     }
 
     /// Ends the rounds of this scenario: compares what they came to with what it lists.

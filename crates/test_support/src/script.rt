@@ -27,20 +27,13 @@ impl Script {
         }
     }
 
-    // Appends what the last command printed to the spool of the next one.
-    fn pipe(&mut self) -> Result<bool, AllocError> {
-        let spool = &mut self.given.spool.bytes;
-        spool.extend_from_slice(self.told.printed.as_slice())?;
-        Ok(true)
-    }
-
     /// Does what a line says that runs no command, and tells whether it is as the line says.
     pub fn note(&mut self, alloc: Global, word: &str, text: &str) -> Result<bool, AllocError> {
         if QUIET.contains(&word) {
             return Ok(true);
         }
         if word == "piped" {
-            return self.pipe();
+            return self.given.add_to_spool(self.told.printed.as_slice());
         }
         let has_failed = self.stored.have_failed();
         if let Some(is_so) = self.told.step(has_failed, word, text)? {

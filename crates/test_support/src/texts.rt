@@ -54,9 +54,41 @@ pub fn bytes_of(alloc: Global, text: &str) -> Result<Vec<u8>, AllocError> {
     Ok(bytes)
 }
 
+/// Appends the texts, one behind the other.
+pub fn add_words(bytes: &mut Vec<u8>, words: &[&str]) -> Result<(), AllocError> {
+    for word in words {
+        bytes.extend_from_slice(word.as_bytes())?;
+    }
+    Ok(())
+}
+
 /// Appends the text and a line end.
 pub fn add_line(bytes: &mut Vec<u8>, text: &str) -> Result<(), AllocError> {
     bytes.extend_from_slice(text.as_bytes())?;
     bytes.push(b'\n')?;
     Ok(())
+}
+
+/// What stands behind this name and a bar in its row; nothing where no row has that name. Rows are parted by the mark.
+pub(crate) fn row_of(rows: &'static str, mark: &str, name: &str) -> &'static str {
+    let mut rest = rows;
+    'rows: for _ in 0..rows.len() {
+        let (row, more) = parted(rest, mark);
+        let (word, text) = parted(row, "|");
+        if word == name {
+            return text;
+        }
+        rest = more;
+    }
+    ""
+}
+
+/// The text with another one in the places of the mark.
+pub(crate) fn replaced(
+    alloc: Global,
+    text: &str,
+    mark: &str,
+    by: &str,
+) -> Result<String, AllocError> {
+    text.replace(alloc, mark, by)
 }

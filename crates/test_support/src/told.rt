@@ -1,5 +1,5 @@
 //! How the last command ended, and what the lines of a script expect of it.
-use crate::texts::{add_bytes, add_line, number_of};
+use crate::texts::{add_bytes, add_line, number_of, parted};
 use itoa::Buffer;
 use std::alloc::{AllocError, Global};
 use std::process::ExitCode;
@@ -7,6 +7,46 @@ use std::str;
 
 /// Stands before the port in what was printed. No command prints it.
 const BEFORE_PORT: &[u8] = b"\0port ";
+
+fn text_of(bytes: &[u8]) -> &str {
+    str::from_utf8(bytes).unwrap_or("no text")
+}
+
+// Makes the text the code and the line of the errors. A line without an end has ` ..` behind it.
+fn put_end(end: &mut String, code: u8, errors: &str) -> Result<(), AllocError> {
+    end.clear();
+    end.push_str(Buffer::new().format(code))?;
+    if errors.is_empty() {
+        return Ok(());
+    }
+    let (line, more) = parted(errors, "\n");
+    end.push(' ')?;
+    end.push_str(line)?;
+    end.push_str(if more.is_empty() && errors.ends_with('\n') {
+        ""
+    } else {
+        " .."
+    })
+}
+
+// Appends a word and how a command ended to a log.
+fn put_note(log: &mut String, word: &str, end: &str) -> Result<(), AllocError> {
+    log.push_str(if log.is_empty() { "" } else { "; " })?;
+    log.push_str(word)?;
+    log.push_str(end)
+}
+
+// Appends each line that isn't empty, with a blank in front.
+fn put_lines(log: &mut String, text: &str) -> Result<(), AllocError> {
+    let mut rest = text;
+    'lines: for _ in 0..text.len() {
+        let (line, more) = parted(rest, "\n");
+        log.push_str(if line.is_empty() { "" } else { " " })?;
+        log.push_str(line)?;
+        rest = more;
+    }
+    Ok(())
+}
 
 #[derive(Drop)]
 pub struct Told {
@@ -36,25 +76,11 @@ impl Told {
         }
     }
 
-    // Keeps the code and the line of the errors. A line without an end has ` ..` behind it.
-    fn keep_end(&mut self, code: u8, text: &str) -> Result<(), AllocError> {
-        self.end.clear();
-        self.end.push_str(Buffer::new().format(code))?;
-        if !text.is_empty() {
-            self.end.push(' ')?;
-            self.end.push_str(text.trim_end_matches('\n'))?;
-            if !text.ends_with('\n') {
-                self.end.push_str(" ..")?;
-            }
-        }
-        Ok(())
-    }
-
     /// Keeps what a command came to, but for what was served.
     pub fn keep(&mut self, code: u8, out: &[u8], errors: &[u8]) -> Result<(), AllocError> {
         self.printed.clear();
         self.printed.extend_from_slice(out)?;
-        self.keep_end(code, str::from_utf8(errors).unwrap_or("no text"))
+        put_end(&mut self.end, code, text_of(errors))
     }
 
     /// Keeps the port that was listened to. It comes behind what was printed.
@@ -98,20 +124,9 @@ impl Told {
 
     // Appends to the log whether a disk failed, how the last command ended, and what it printed.
     fn note(&mut self, has_failed: bool) -> Result<(), AllocError> {
-        if !self.log.is_empty() {
-            self.log.push_str("; ")?;
-        }
-        self.log
-            .push_str(if has_failed { "fault " } else { "calm " })?;
-        self.log.push_str(self.end.as_str())?;
-        let text = str::from_utf8(self.printed.as_slice()).unwrap_or("no text");
-        for line in text.split('\n') {
-            if !line.is_empty() {
-                self.log.push(' ')?;
-                self.log.push_str(line)?;
-            }
-        }
-        Ok(())
+        let word = if has_failed { "fault " } else { "calm " };
+        put_note(&mut self.log, word, self.end.as_str())?;
+        put_lines(&mut self.log, text_of(self.printed.as_slice()))
     }
 
     /// Does what a line says of the last command, and tells whether it is as the line says; none for other lines.
