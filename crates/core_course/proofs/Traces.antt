@@ -1,5 +1,5 @@
 -- What a run that is told in two parts leaves in the logs.
-use Rattle.std.proofs.Common.{◌≡◌, ◌∙◌, List, [], ◌∷◌, ◌++◌, sym, ap, append_assoc}
+use Rattle.std.proofs.Common.{◌≡◌, ◌∙◌, List, [], ◌∷◌, ◌++◌, None, Some, sym, ap, append_assoc}
 use Rattle.std.proofs.lemmas.List.{append-nil}
 use Rattle.core_state.specs.record_spec.declared.queue.QueueRecord.{QueueRecord}
 use Rattle.core_state.specs.record_spec.declared.store.StoreRecord.{StoreRecord}
@@ -26,7 +26,8 @@ work_joined [] earlier l e = e
 work_joined (Submit r c ∷ later) earlier l e = absurd l
 work_joined (Claim r ∷ later) earlier l e = work_joined later earlier l e
 work_joined (Release r ∷ later) earlier l e = work_joined later earlier l e
-work_joined (Apply r t ∷ later) earlier l e = work_joined later earlier l e
+work_joined (Apply r None ∷ later) earlier l e = absurd l
+work_joined (Apply r (Some t) ∷ later) earlier l e = work_joined later earlier l e
 work_joined (Supersede q p ∷ later) earlier l e = work_joined later earlier l e
 work_joined (Fail r before after ∷ later) earlier l e = work_joined later earlier l e
 work_joined (Discard r why ∷ later) earlier l e = work_joined later earlier l e

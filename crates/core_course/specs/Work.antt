@@ -1,6 +1,6 @@
 -- What working off pending commands does to a core: claims and settles, without submits.
-use Rattle.std.specs.Prelude.{[], ◌∷◌}
-use Rattle.core_state.specs.core_spec.declared.event.Event.TheVariants.{Submit, Sweep, Restart}
+use Rattle.std.specs.Prelude.{[], ◌∷◌, None}
+use Rattle.core_state.specs.core_spec.declared.event.Event.TheVariants.{Submit, Apply, Sweep, Restart}
 use Rattle.core_state.specs.core_spec.History.{History}
 use Rattle.core_state.specs.core_laws.Threads.{MomentsAreKept}
 use Rattle.core_state.specs.declared.state.CoreState.{CoreState}
@@ -8,10 +8,12 @@ use Rattle.core_state.specs.StandsFor.{history_of}
 use Rattle.core_course.specs.Sight.{Sight, Stood}
 use Rattle.core_course.specs.Courses.{Course, Passed}
 
--- no submit, no sweep, no restart
+-- No submit, no sweep, no restart. Each command is applied with a moment, which in a legal history is the one at which it was
+-- received.
 abbrev pub IsWork : History → Type 0
 IsWork [] = Unit {0}
 IsWork (Submit r c ∷ events) = ⊥
+IsWork (Apply r None ∷ events) = ⊥
 IsWork (Sweep kinds m ∷ events) = ⊥
 IsWork (Restart ∷ events) = ⊥
 IsWork (_ ∷ events) = IsWork events

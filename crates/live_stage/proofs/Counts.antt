@@ -1,5 +1,5 @@
 -- How many events of the live trace there are after each call.
-use Rattle.std.proofs.Common.{◌≡◌, ◌∙◌, ℕ, suc, ◌+◌, ◌≤◌, ◌%◌, ◌^◌, ◌<◌, [], ◌∷◌, ◌++◌, length, refl, sym, ap, arith, ℤ}
+use Rattle.std.proofs.Common.{◌≡◌, ◌∙◌, ℕ, suc, ◌+◌, ◌≤◌, ◌%◌, ◌^◌, ◌<◌, [], ◌∷◌, ◌++◌, None, Some, length, refl, sym, ap, arith, ℤ}
 use Rattle.core_ends.specs.fleet_rows.declared.command.Command.{Command}
 use Rattle.fleet_rows.specs.declared.submitted.Submitted.{Submitted}
 use Rattle.fleet_rows.specs.declared.submitted.Submitted.TheVariants as submitted
@@ -54,7 +54,8 @@ no_sweeps [] old is = refl
 no_sweeps (Submit r c ∷ es) old is = absurd is
 no_sweeps (Claim r ∷ es) old is = no_sweeps es old is
 no_sweeps (Release r ∷ es) old is = no_sweeps es old is
-no_sweeps (Apply r t ∷ es) old is = no_sweeps es old is
+no_sweeps (Apply r None ∷ es) old is = absurd is
+no_sweeps (Apply r (Some t) ∷ es) old is = no_sweeps es old is
 no_sweeps (Supersede q p ∷ es) old is = no_sweeps es old is
 no_sweeps (Fail r before after ∷ es) old is = no_sweeps es old is
 no_sweeps (Discard r why ∷ es) old is = no_sweeps es old is

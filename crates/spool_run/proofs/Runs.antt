@@ -1,5 +1,5 @@
 -- The rules of a run hold with one step more.
-use Rattle.std.proofs.Common.{◌≡◌, ◌⊎◌, refl, sym, ap, subst, ℕ, ℤ, List, [], ◌∷◌, ◌++◌, Bool, true, false}
+use Rattle.std.proofs.Common.{◌≡◌, ◌⊎◌, refl, sym, ap, subst, ℕ, ℤ, List, [], ◌∷◌, ◌++◌, None, Some, Bool, true, false}
 use Rattle.fleet_hub.specs.fleet_rows.declared.command.Command.{Command}
 use Rattle.fleet_hub.specs.fleet_rows.declared.settings.Kinds.{Kinds}
 use Rattle.fleet_hub.specs.history_spec.Thread as thread
@@ -21,7 +21,8 @@ work_items (Sweep kinds m ∷ work) run h = absurd h
 work_items (Restart ∷ work) run h = absurd h
 work_items (Claim r ∷ work) run h = work_items work run h
 work_items (Release r ∷ work) run h = work_items work run h
-work_items (Apply r t ∷ work) run h = work_items work run h
+work_items (Apply r None ∷ work) run h = absurd h
+work_items (Apply r (Some t) ∷ work) run h = work_items work run h
 work_items (Supersede q p ∷ work) run h = work_items work run h
 work_items (Fail r before after ∷ work) run h = work_items work run h
 work_items (Discard r cause ∷ work) run h = work_items work run h
@@ -33,7 +34,8 @@ work_restarts (Sweep kinds m ∷ work) run h k = absurd h
 work_restarts (Restart ∷ work) run h k = absurd h
 work_restarts (Claim r ∷ work) run h k = work_restarts work run h k
 work_restarts (Release r ∷ work) run h k = work_restarts work run h k
-work_restarts (Apply r t ∷ work) run h k = work_restarts work run h k
+work_restarts (Apply r None ∷ work) run h k = absurd h
+work_restarts (Apply r (Some t) ∷ work) run h k = work_restarts work run h k
 work_restarts (Supersede q p ∷ work) run h k = work_restarts work run h k
 work_restarts (Fail r before after ∷ work) run h k = work_restarts work run h k
 work_restarts (Discard r cause ∷ work) run h k = work_restarts work run h k
@@ -46,7 +48,8 @@ module _ (start run : History) where
   work_sweeps (Restart ∷ work) h k = absurd h
   work_sweeps (Claim r ∷ work) h k = work_sweeps work h k
   work_sweeps (Release r ∷ work) h k = work_sweeps work h k
-  work_sweeps (Apply r t ∷ work) h k = work_sweeps work h k
+  work_sweeps (Apply r None ∷ work) h k = absurd h
+  work_sweeps (Apply r (Some t) ∷ work) h k = work_sweeps work h k
   work_sweeps (Supersede q p ∷ work) h k = work_sweeps work h k
   work_sweeps (Fail r before after ∷ work) h k = work_sweeps work h k
   work_sweeps (Discard r cause ∷ work) h k = work_sweeps work h k
@@ -58,7 +61,8 @@ module _ (start run : History) where
   work_submits (Restart ∷ work) h k = absurd h
   work_submits (Claim r ∷ work) h k = work_submits work h k
   work_submits (Release r ∷ work) h k = work_submits work h k
-  work_submits (Apply r t ∷ work) h k = work_submits work h k
+  work_submits (Apply r None ∷ work) h k = absurd h
+  work_submits (Apply r (Some t) ∷ work) h k = work_submits work h k
   work_submits (Supersede q p ∷ work) h k = work_submits work h k
   work_submits (Fail r before after ∷ work) h k = work_submits work h k
   work_submits (Discard r cause ∷ work) h k = work_submits work h k
@@ -72,7 +76,8 @@ before_more (Sweep kinds m ∷ work) run h = absurd h
 before_more (Restart ∷ work) run h = absurd h
 before_more (Claim r ∷ work) run h = before_more work run h
 before_more (Release r ∷ work) run h = before_more work run h
-before_more (Apply r t ∷ work) run h = before_more work run h
+before_more (Apply r None ∷ work) run h = absurd h
+before_more (Apply r (Some t) ∷ work) run h = before_more work run h
 before_more (Supersede q p ∷ work) run h = before_more work run h
 before_more (Fail r before after ∷ work) run h = before_more work run h
 before_more (Discard r cause ∷ work) run h = before_more work run h
@@ -88,7 +93,8 @@ module _ (due : Bool) (start run : History) (here : IsDue due (pending_of (befor
   due_more (Restart ∷ work) h k = absurd h
   due_more (Claim r ∷ work) h k = (due_here work h, due_more work h k)
   due_more (Release r ∷ work) h k = (due_here work h, due_more work h k)
-  due_more (Apply r t ∷ work) h k = (due_here work h, due_more work h k)
+  due_more (Apply r None ∷ work) h k = absurd h
+  due_more (Apply r (Some t) ∷ work) h k = (due_here work h, due_more work h k)
   due_more (Supersede q p ∷ work) h k = (due_here work h, due_more work h k)
   due_more (Fail r before after ∷ work) h k = (due_here work h, due_more work h k)
   due_more (Discard r cause ∷ work) h k = (due_here work h, due_more work h k)
