@@ -1,6 +1,6 @@
 //! Refers to the values that a row shows.
 ghost use Rattle.std.specs.Prelude.{◌≡◌, IfOk, map};
-ghost use Rattle.fleet_tables.specs.fleet_rows.Cell.{cell_of};
+ghost use Rattle.fleet_tables.specs.fleet_rows.Cell.{cell_of, cells_of};
 ghost use Rattle.fleet_tables.specs.fleet_rows.Columns.{column_name};
 ghost use Rattle.paging_text.specs.means_spec.Cells.{cell_under};
 ghost use Rattle.paging_text.specs.Shown.{cell_or_null};
@@ -78,6 +78,17 @@ pub(crate) fn all_copied(alloc: Global, row: &[Seen<'_>]) -> Result<Cells, Alloc
     let mut cells = Cells::new(alloc);
     for seen in row {
         cells.push(copied(alloc, seen)?)?;
+    }
+    Ok(cells)
+}
+
+/// Copies of the cells.
+pub(crate) fn copied_cells(alloc: Global, row: &[Cell]) -> Result<Cells, AllocError>
+    ensures { IfOk result (λ cells. cells ≡ cells_of row.now) }
+{
+    let mut cells = Cells::new(alloc);
+    for cell in row {
+        cells.push(cell.copy(alloc)?)?;
     }
     Ok(cells)
 }

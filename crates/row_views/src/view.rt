@@ -13,7 +13,7 @@ ghost use Rattle.row_views.specs.Held.{fact_values};
 ghost use Rattle.row_views.specs.Seen.{seen_value};
 
 use crate::cells::cell_in;
-use crate::seen::{Seen, all_copied, seen_among, seen_of, text_or_null};
+use crate::seen::{Seen, all_copied, copied_cells, seen_among, seen_of, text_or_null};
 use fleet_tables::fleet_rows::{Cells, Entity, FactsChange};
 use fleet_tables::{Steps, Tables};
 use kept_nodes::Node;
@@ -207,6 +207,16 @@ impl<'t> View<'t> {
         match &self.held {
             Held::Fact(fact) => seen_in_fact(fact, entity, name),
             Held::Made(cells) => seen_of(cell_in(entity, name, cells.as_slice())),
+        }
+    }
+
+    /// A copy of the cells of the row.
+    pub fn cells(&self, alloc: Global) -> Result<Cells, AllocError>
+        ensures { IfOk result (λ cells. cells ≡ self.now) }
+    {
+        match &self.held {
+            Held::Fact(fact) => cells_of_fact(alloc, fact),
+            Held::Made(cells) => copied_cells(alloc, cells.as_slice()),
         }
     }
 
