@@ -9,3 +9,4 @@ pub mod NodeFacts
 mod Turns
 pub mod SceneLaws
 pub mod TryLaws
+pub mod BlockLaws

@@ -6,6 +6,7 @@ pub mod Indexed
 pub mod Known
 pub mod Ready
 pub mod Tries
+pub mod Columns
 -- Re-exports for the crates above.
 pub use Rattle.pattern_port.specs.fleet_ports as fleet_ports
 pub use Rattle.pattern_port.specs as pattern_port

@@ -4,6 +4,9 @@
 //! active. [`Known`] has the rows of an inner level, [`FactRows`] those of all facts, each under the text by which an outer row
 //! looks for them. [`with_marks`] gives rows of one group the same mark, and [`parts_of`] sorts rows by their marks.
 //!
+//! [`columns_of`] tries the patterns of a filter on the texts of a block of rows at once, and [`holds_given`] runs its steps on a
+//! row of the block with these answers.
+//!
 //! The main guarantees: `holds` answers exactly what the filter's steps mean on the row (`means_spec`, `query_plan`), and tries
 //! texts only on patterns that were read before. `known_of` and `fact_rows` store exactly the rows that they are given.
 //!
@@ -12,6 +15,7 @@
 //! n steps on average, whatever values were chosen by someone who doesn't know the keys.
 #![tactic(auto)]
 
+mod blocks;
 mod cells;
 mod compare;
 mod index;
@@ -24,6 +28,7 @@ mod scene;
 mod seen;
 mod tuples;
 
+pub use blocks::{Column, columns_of, holds_given};
 pub use cells::{column_names, copy_or_null, node_in, node_seen};
 pub use compare::same_cell;
 pub use index::{Index, PlaceList};

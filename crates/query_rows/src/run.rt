@@ -201,7 +201,7 @@ fn act_on<P: Patterns>(
 }
 
 // Applies a step with the index of its literals.
-fn step_on<P: Patterns>(
+pub(crate) fn step_on<P: Patterns>(
     scene: &Scene,
     entity: Option<Entity>,
     row: &View<'_>,
