@@ -1,7 +1,9 @@
 -- Rows that are read by their places.
-use Rattle.std.proofs.Common.{◌≡◌, ◌∙◌, ℕ, zero, suc, ◌+◌, ◌*◌, ◌<◌, ◌≤◌, List, [], ◌∷◌, ◌++◌, Bool, true, false, length, map, drop, get_or, refl, sym, ap, subst, append_assoc, Option, Some, arith, if◌then◌else◌}
-use Rattle.std.specs.Prelude.{filter, slice_get}
+use Rattle.std.proofs.Common.{◌≡◌, ◌∙◌, ℕ, zero, suc, ◌+◌, ◌*◌, ◌<◌, ◌≤◌, List, [], ◌∷◌, ◌++◌, Bool, true, false, length, map, take, drop, get_or, refl, sym, ap, subst, append_assoc, Option, Some, arith, if◌then◌else◌}
+use Rattle.std.specs.Prelude.{filter, slice_get, slice_range}
+use Rattle.std.proofs.lemmas.List.Concat.{flat_map-append}
 use Rattle.std.proofs.lemmas.List.Elements.{filter-append}
+use Rattle.std.proofs.lemmas.List.Folds.{drop_split}
 use Rattle.std.proofs.lemmas.Option.{slice_get_within, slice_get_read}
 use Rattle.fleet_tables.proofs.of_plain_laws.Lists.{left_at}
 use Rattle.fleet_tables.proofs.PlaceLaws.{places_show}
@@ -96,3 +98,36 @@ mul_up (suc i) (suc n) f h = let m = mul_up i n f (omega (arith, h)) in omega (a
 
 pub cost_within : (start now i n f : ℕ) → now ≤ start + i * (1 + f) → i ≤ n → now ≤ start + n * (1 + f)
 cost_within start now i n f h k = let m = mul_up i n (1 + f) k in omega (arith, h, m)
+
+-- ---- rows by reference, and blocks
+
+-- the row at one place more
+pub view_on : (rows : List Cells) (places : List ℕ) (i at : ℕ) (view : Cells) (old new whole : List Cells) → i < length places → at ≡ get_or places i at → slice_get rows at ≡ Some view
+    → new ≡ old ++ view ∷ [] → old ++ picked rows (drop i places) ≡ whole → new ++ picked rows (drop (i + 1) places) ≡ whole
+view_on rows places i at view old new whole lt is there e h =
+    let g = slice_get_read places (length places) i at refl lt is in
+    (λ k. e k ++ picked rows (drop (let n : i + 1 ≡ suc i = omega arith in n k) places))
+    ∙ append_assoc old (view ∷ []) (picked rows (drop (suc i) places))
+    ∙ ap (λ o. old ++ (one_in o ++ picked rows (drop (suc i) places))) (sym there)
+    ∙ ap (λ l. old ++ picked rows l) (sym (left_at places i at g))
+    ∙ h
+
+picked_both : (rows : List Cells) (xs ys : List ℕ) → picked rows (xs ++ ys) ≡ picked rows xs ++ picked rows ys
+picked_both rows xs ys = flat_map-append (slice_one rows) xs ys
+
+-- the rows of one block more
+pub block_on : (p q : Cells → Bool) → q ≡ p → (rows : List Cells) (places : List ℕ) (at end : ℕ) (chosen new whole : List Cells) → at ≤ end
+    → new ≡ chosen ++ filter q (picked rows (slice_range places at end)) → chosen ++ filter p (picked rows (drop at places)) ≡ whole → new ++ filter p (picked rows (drop end places)) ≡ whole
+block_on p q same rows places at end chosen new whole le e h =
+    let block = picked rows (slice_range places at end) in
+    let rest = picked rows (drop end places) in
+    ap (λ l. l ++ filter p rest) e
+    ∙ append_assoc chosen (filter q block) (filter p rest)
+    ∙ ap (λ r. chosen ++ (filter r block ++ filter p rest)) same
+    ∙ ap (λ l. chosen ++ l) (sym (filter-append p block rest) ∙ ap (filter p) (sym (picked_both rows (slice_range places at end) (drop end places)) ∙ ap (picked rows) (sym (drop_split places at end le))))
+    ∙ h
+
+pub take_at_most : (k : ℕ) (xs : List ℕ) → length (take k xs) ≤ k
+take_at_most zero xs = omega arith
+take_at_most (suc k) [] = omega arith
+take_at_most (suc k) (x ∷ xs) = let rest = take_at_most k xs in omega (arith, rest)

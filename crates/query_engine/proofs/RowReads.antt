@@ -43,6 +43,12 @@ module _ (table : Table) (says : List ℕ → List ℕ → Bool) (ps : List (Lis
       let same = row_alike (λ x. facts) (λ x. table_rows x table) (is_inactive_in table) says ps found s row own in
       ap (λ b. if b then row ∷ [] else []) same ∙ ap (λ o. filter (is_chosen (world_of table says) ps found s) (one_in o)) (sym there)
 
+  -- where the filter names no fact, each row is chosen alike
+  pub block_alike : (facts : List Cells) → steps_facts s.steps ≡ [] → is_chosen (seen_world facts) ps found s ≡ is_chosen (world_of table says) ps found s
+  block_alike facts none = λ i row.
+      row_alike (λ x. facts) (λ x. table_rows x table) (is_inactive_in table) says ps found s row
+      (subst (AllByRecursion (SameFact (node_in s.entity row) facts (table_rows Facts table))) (sym none) tt) i
+
 -- ---- what a stage reads
 
 -- a row that a stage chooses is in reach of the pins by which its rows are read

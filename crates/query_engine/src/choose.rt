@@ -1,5 +1,5 @@
 //! Finds the rows that a stage chooses.
-ghost use Rattle.std.specs.Prelude.{◌≡◌, ◌++◌, ◌∷◌, ◌+◌, ◌*◌, ◌<◌, ◌≤◌, [], ℕ, List, map, length, IfOk, OnOk, Some, filter, true};
+ghost use Rattle.std.specs.Prelude.{◌≡◌, ◌++◌, ◌∷◌, ◌+◌, ◌*◌, ◌<◌, ◌≤◌, [], ℕ, List, map, length, IfOk, OnOk, Some, None, filter, true};
 ghost use Rattle.std.specs.List.{AllByRecursion};
 ghost use Rattle.query_plan.specs.Plan.{chosen_rows, is_chosen};
 ghost use Rattle.query_plan.specs.Made.{stage_of};
@@ -15,6 +15,7 @@ ghost use Rattle.query_engine.specs.Fetched.{picked, slice_one};
 ghost use Rattle.query_engine.specs.Joins.{Joins, step_join};
 ghost use Rattle.query_engine.specs.Stopping.{first_of};
 
+use crate::blocks::{have_patterns, read_blocks};
 use crate::facts::facts_for;
 use crate::joins::Nodes;
 use crate::reading::places_for;
@@ -122,7 +123,7 @@ fn choose_at<L: Ledger, P: Patterns>(
 // The first chosen rows among those at the places, as many as suffice. Each place is read at most once, and none behind the last
 // of these rows.
 #[tactic(auto, using(query_rows::proofs::TryLaws::tried_nothing, query_rows::proofs::TryLaws::tried_then))]
-fn read_places<L: Ledger, P: Patterns>(
+fn read_each<L: Ledger, P: Patterns>(
     alloc: Global,
     tables: &Tables,
     patterns: &mut P,
@@ -169,6 +170,59 @@ fn read_places<L: Ledger, P: Patterns>(
         )?;
     }
     Ok(chosen)
+}
+
+// Whether rows are read in blocks: a pattern is tried on them, no field names a fact, and all of them are asked for.
+fn goes_by_blocks(steps: &[Ready], names: &[&Text], enough: Option<usize>) -> bool
+    ensures names { result ≡ true → names.now ≡ [] }
+    ensures all { result ≡ true → enough ≡ None }
+{
+    match names {
+        [] => match enough {
+            None => have_patterns(steps),
+            Some(_) => false,
+        },
+        _ => false,
+    }
+}
+
+// The same, in blocks or one by one.
+fn read_places<L: Ledger, P: Patterns>(
+    alloc: Global,
+    tables: &Tables,
+    patterns: &mut P,
+    compiled: &[P::Compiled],
+    found: &[Known],
+    stage: &Stage,
+    steps: &[Ready],
+    names: &[&Text],
+    entity: Entity,
+    places: &[usize],
+    enough: Option<usize>,
+    walk: &mut Steps<L>,
+) -> Result<Lines, AllocError>
+    requires steps { steps.now ≡ stage.now.steps }
+    requires names { texts_seen names.now ≡ steps_facts stage.now.steps }
+    requires entity { stage.now.entity ≡ Some entity }
+    requires places { AllByRecursion (λ place. place < length (table_rows entity tables.now)) places.now }
+    ensures same { (p t : List ℕ) → P.says patterns.new p t ≡ P.says patterns.old p t }
+    ensures calm { P.refusals patterns.new ≡ P.refusals patterns.old }
+    ensures silent { P.asked patterns.new ≡ P.asked patterns.old }
+    ensures tried { HasTried (P.course patterns.old) (P.course patterns.new) }
+    ensures cost { walk.new ≤ walk.old + length places.now * (1 + length names.now) }
+    ensures value { IfOk result (λ rows. rows ≡ first_of enough (filter (is_chosen (world_of tables.now (P.says patterns.old))
+        (map (λ c. P.made_from c) compiled.now) found.now (stage_of stage.now)) (picked (table_rows entity tables.now) places.now))) }
+{
+    if goes_by_blocks(steps, names, enough) {
+        read_blocks(
+            alloc, tables, patterns, compiled, found, stage, steps, entity, places, walk,
+        )
+    } else {
+        read_each(
+            alloc, tables, patterns, compiled, found, stage, steps, names, entity, places, enough,
+            walk,
+        )
+    }
 }
 
 // The first chosen rows of an entity, read by the places of the rows in reach.

@@ -25,10 +25,12 @@
 //! - The pattern reader counts BadPattern (`cause`). What patterns match stays (`same`). `bound` holds of each answer.
 //!
 //! Costs: rows are copied one by one. The places of a level's rows take 8 bytes each. An array of more than eight literals is
-//! indexed. Activity is asked only of rows that pass the filter.
+//! indexed. Activity is asked only of rows that pass the filter. Where a filter has patterns and names no fact, and all rows are asked
+//! for, they are read in blocks of 1,024, and each pattern is tried on the texts of a block in one call.
 #![tactic(auto)]
 
 mod answer;
+mod blocks;
 mod choose;
 mod counting;
 mod engine;

@@ -7,7 +7,7 @@ use Rattle.query_rows.specs.Tables.{world_of}
 use Rattle.query_rows.specs.Tries.{HasTried}
 use Rattle.query_engine.specs.Fetched.{picked}
 use Rattle.query_engine.specs.Stopping.{IsAtMost}
-use Rattle.query_engine.proofs.choose.read_places.Given as goal
+use Rattle.query_engine.proofs.choose.read_each.Given as goal
 
 abbrev pub invariant-reading : goal.invariant-reading
 invariant-reading g l =
