@@ -86,6 +86,26 @@ read_on p q same rows places i at chosen new whole lt is e h =
     ∙ ap (λ l. chosen ++ l) (sym (filter-append p (slice_one rows at) (picked rows (drop (suc i) places))) ∙ ap (λ l. filter p (picked rows l)) (sym (left_at places i at g)))
     ∙ h
 
+-- ---- all rows, one after the other
+
+one_more : (rows : List Cells) (i : ℕ) → i < length rows → drop i rows ≡ slice_one rows i ++ drop (suc i) rows
+one_more [] i h = absurd (omega (arith, h))
+one_more (r ∷ rs) zero h = refl
+one_more (r ∷ rs) (suc i) h = one_more rs i (omega (arith, h))
+
+pub all_on : (p q : Cells → Bool) → q ≡ p → (rows : List Cells) (i : ℕ) (chosen new all : List Cells) → i < length rows → new ≡ chosen ++ filter q (slice_one rows i) → chosen ++ filter p (drop i rows) ≡ all
+    → new ++ filter p (drop (i + 1) rows) ≡ all
+all_on p q same rows i chosen new all lt e h =
+    (λ k. e k ++ filter p (drop (let n : i + 1 ≡ suc i = omega arith in n k) rows))
+    ∙ append_assoc chosen (filter q (slice_one rows i)) (filter p (drop (suc i) rows))
+    ∙ ap (λ r. chosen ++ (filter r (slice_one rows i) ++ filter p (drop (suc i) rows))) same
+    ∙ ap (λ l. chosen ++ l) (sym (filter-append p (slice_one rows i) (drop (suc i) rows)) ∙ ap (filter p) (sym (one_more rows i lt)))
+    ∙ h
+
+pub all_pass : (test : Cells → Bool) (rows : List Cells) → ((row : Cells) → test row ≡ true) → length (filter test rows) ≡ length rows
+all_pass test [] h = refl
+all_pass test (r ∷ rs) h = ap (λ b. length (if b then r ∷ filter test rs else filter test rs)) (h r) ∙ ap suc (all_pass test rs h)
+
 -- ---- what it costs
 
 pub cost_on : (start now next i f : ℕ) → now ≤ start + i * (1 + f) → next ≤ now + (1 + f) → next ≤ start + (i + 1) * (1 + f)

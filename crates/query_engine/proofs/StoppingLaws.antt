@@ -1,10 +1,10 @@
 -- A page without an order needs no rows behind its last one.
-use Rattle.std.proofs.Common.{◌≡◌, ◌∙◌, ℕ, zero, suc, ◌+◌, ◌<◌, ◌≤◌, List, [], ◌∷◌, ◌++◌, length, take, drop, map, Bool, true, false, not, if◌then◌else◌, Option, Some, None, refl, sym, ap, subst, arith, length-append}
+use Rattle.std.proofs.Common.{◌≡◌, ◌∙◌, ℕ, zero, suc, ◌+◌, ◌<◌, ◌≤◌, List, [], ◌∷◌, ◌++◌, length, take, drop, map, Bool, true, false, not, if◌then◌else◌, Option, Some, None, refl, sym, ap, arith, length-append}
 use Rattle.std.specs.Prelude.{filter, nat_lt, slice_get}
 use Rattle.std.proofs.Math.Seq.{take-append_seam}
 use Rattle.std.proofs.lemmas.List.{take_all}
 use Rattle.fleet_tables.specs.fleet_rows.declared.row.Entity.{Entity}
-use Rattle.query_plan.specs.Plan.{Shape, whole, answers, shaped, shaped_sum}
+use Rattle.query_plan.specs.Plan.{Shape, answers}
 use Rattle.query_plan.specs.means_spec.Cells.{names_in}
 use Rattle.query_plan.specs.means_spec.Groups.{group_rows, groups}
 use Rattle.query_plan.specs.means_spec.Means.{answered}

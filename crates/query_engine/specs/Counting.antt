@@ -1,5 +1,5 @@
 -- Levels that only count the rows of an entity.
-use Rattle.std.specs.Prelude.{◌≡◌, List, [], ◌∷◌, true, false, length, filter, Option, Some}
+use Rattle.std.specs.Prelude.{◌≡◌, List, [], ◌∷◌, true, false, length, filter, Some}
 use Rattle.fleet_tables.specs.Active.{is_active_row}
 use Rattle.fleet_tables.specs.fleet_rows.declared.row.Entity.{Entity}
 use Rattle.fleet_tables.specs.table_machine.Rows.{table_rows}

@@ -18,7 +18,7 @@ ghost use Rattle.query_engine.specs.Stopping.{first_of};
 use crate::blocks::{have_patterns, read_blocks};
 use crate::facts::facts_for;
 use crate::joins::Nodes;
-use crate::reading::places_for;
+use crate::reading::{places_for, reads_front};
 use crate::stopping::suffices;
 use fleet_tables::fleet_rows::Entity;
 use fleet_tables::{Steps, Tables};
@@ -186,7 +186,7 @@ fn goes_by_blocks(steps: &[Ready], names: &[&Text], enough: Option<usize>) -> bo
     }
 }
 
-// The same, in blocks or one by one.
+// The first chosen rows among those at the places, read in blocks or one by one.
 fn read_places<L: Ledger, P: Patterns>(
     alloc: Global,
     tables: &Tables,
@@ -225,8 +225,57 @@ fn read_places<L: Ledger, P: Patterns>(
     }
 }
 
+// The same among all rows, from the first one on.
+#[tactic(auto, using(query_rows::proofs::TryLaws::tried_nothing, query_rows::proofs::TryLaws::tried_then))]
+fn read_front<L: Ledger, P: Patterns>(
+    alloc: Global,
+    tables: &Tables,
+    patterns: &mut P,
+    compiled: &[P::Compiled],
+    found: &[Known],
+    stage: &Stage,
+    steps: &[Ready],
+    names: &[&Text],
+    entity: Entity,
+    enough: Option<usize>,
+    walk: &mut Steps<L>,
+) -> Result<Lines, AllocError>
+    requires steps { steps.now ≡ stage.now.steps }
+    requires names { texts_seen names.now ≡ steps_facts stage.now.steps }
+    requires entity { stage.now.entity ≡ Some entity }
+    ensures same { (p t : List ℕ) → P.says patterns.new p t ≡ P.says patterns.old p t }
+    ensures calm { P.refusals patterns.new ≡ P.refusals patterns.old }
+    ensures silent { P.asked patterns.new ≡ P.asked patterns.old }
+    ensures tried { HasTried (P.course patterns.old) (P.course patterns.new) }
+    ensures cost { walk.new ≤ walk.old + length (table_rows entity tables.now) * (1 + length names.now) }
+    ensures value { IfOk result (λ rows. rows ≡ first_of enough (filter (is_chosen (world_of tables.now (P.says patterns.old))
+        (map (λ c. P.made_from c) compiled.now) found.now (stage_of stage.now)) (table_rows entity tables.now))) }
+{
+    let mut chosen = Lines::new(alloc);
+    'reading: for place in 0..tables.count(entity) {
+        if suffices(&chosen, enough) {
+            return Ok(chosen);
+        }
+        choose_at(
+            alloc,
+            tables,
+            patterns,
+            compiled,
+            found,
+            stage,
+            steps,
+            names,
+            entity,
+            place,
+            &mut chosen,
+            walk,
+        )?;
+    }
+    Ok(chosen)
+}
+
 // The first chosen rows of an entity, read by the places of the rows in reach.
-fn chosen_of<L: Ledger, P: Patterns>(
+fn chosen_by_places<L: Ledger, P: Patterns>(
     alloc: Global,
     tables: &Tables,
     patterns: &mut P,
@@ -270,6 +319,48 @@ fn chosen_of<L: Ledger, P: Patterns>(
         enough,
         walk,
     )
+}
+
+// The first chosen rows of an entity.
+fn chosen_of<L: Ledger, P: Patterns>(
+    alloc: Global,
+    tables: &Tables,
+    patterns: &mut P,
+    compiled: &[P::Compiled],
+    found: &[Known],
+    stage: &Stage,
+    steps: &[Ready],
+    names: &[&Text],
+    pins: &Pins,
+    nodes: &Nodes,
+    entity: Entity,
+    enough: Option<usize>,
+    walk: &mut Steps<L>,
+) -> Result<Lines, AllocError>
+    requires steps { steps.now ≡ stage.now.steps }
+    requires names { texts_seen names.now ≡ steps_facts stage.now.steps }
+    requires entity { stage.now.entity ≡ Some entity }
+    requires implied { (row : CellsValue) → is_chosen (world_of tables.now (P.says patterns.old)) (map (λ c. P.made_from c) compiled.now) found.now
+        (stage_of stage.now) row ≡ true → is_found (Some entity) pins.now row ≡ true }
+    requires joined { nodes.now.joined ≡ true → Joins (step_join stage.now.steps) found.now (texts_seen nodes.now.list.items) }
+    ensures same { (p t : List ℕ) → P.says patterns.new p t ≡ P.says patterns.old p t }
+    ensures calm { P.refusals patterns.new ≡ P.refusals patterns.old }
+    ensures silent { P.asked patterns.new ≡ P.asked patterns.old }
+    ensures tried { HasTried (P.course patterns.old) (P.course patterns.new) }
+    ensures cost { walk.new ≤ walk.old + length (filter (is_found (Some entity) pins.now) (table_rows entity tables.now)) * (1 + length names.now) }
+    ensures value { IfOk result (λ rows. rows ≡ first_of enough (filter (is_chosen (world_of tables.now (P.says patterns.old))
+        (map (λ c. P.made_from c) compiled.now) found.now (stage_of stage.now)) (table_rows entity tables.now))) }
+{
+    if reads_front(entity, pins, nodes, enough) {
+        read_front(
+            alloc, tables, patterns, compiled, found, stage, steps, names, entity, enough, walk,
+        )
+    } else {
+        chosen_by_places(
+            alloc, tables, patterns, compiled, found, stage, steps, names, pins, nodes, entity,
+            enough, walk,
+        )
+    }
 }
 
 /// The first of the rows that the stage chooses, as many as suffice. `found` has the rows of the levels before it. Only rows in

@@ -9,6 +9,7 @@ ghost use Rattle.fleet_tables.specs.fleet_rows.declared.row.Entity.{Entity as En
 ghost use Rattle.fleet_tables.specs.fleet_rows.declared.row.Entity.TheVariants as entities;
 ghost use Rattle.fleet_tables.specs.table_machine.Rows.{table_rows};
 ghost use Rattle.fleet_tables.specs.Spans.{places_of};
+ghost use Rattle.fleet_tables.specs.Wanted.{is_wanted, texts_of};
 ghost use Rattle.query_plan.specs.Made.{steps_of};
 ghost use Rattle.query_plan.specs.table_spec.Rows.{Cells as CellsOf};
 ghost use Rattle.query_reach.specs.Demands.{IsDemand, IsOnly};
@@ -145,6 +146,44 @@ fn wanted_of<'q>(entity: Entity, pins: &[Pin<'q>]) -> Option<Wanted<'q>>
     ensures { IsWantedBy entity (pins_seen pins.now) result }
 {
     with_certname(demand_on(pins, "certname"), own_of(entity, pins))
+}
+
+fn asks_for_nothing(wanted: &Wanted<'_>) -> bool
+    ensures { result ≡ true → (e : EntityValue) (row : CellsOf) → is_wanted e (texts_of wanted.now) row ≡ true }
+{
+    match wanted.certname {
+        Some(_) => false,
+        None => match wanted.name {
+            Some(_) => false,
+            None => match wanted.resource {
+                Some(_) => false,
+                None => true,
+            },
+        },
+    }
+}
+
+// Whether all rows are in reach of the pins.
+fn demand_nothing(entity: Entity, pins: &[Pin<'_>]) -> bool
+    ensures { result ≡ true → (row : CellsOf) → is_found (Some entity) (pins_seen pins.now) row ≡ true }
+{
+    match wanted_of(entity, pins) {
+        None => false,
+        Some(wanted) => asks_for_nothing(&wanted),
+    }
+}
+
+/// Whether rows are read from the first one on, without a list of places: not all rows are needed, the pins demand nothing, and the
+/// level isn't limited to nodes.
+pub(crate) fn reads_front(
+    entity: Entity,
+    pins: &Pins<'_>,
+    nodes: &Nodes<'_>,
+    enough: Option<usize>,
+) -> bool
+    ensures { result ≡ true → (row : CellsOf) → is_found (Some entity) pins.now row ≡ true }
+{
+    enough.is_some() && !nodes.joined && demand_nothing(entity, pins.as_slice())
 }
 
 // The places of the rows in reach of the pins, in order. No row is read for it.

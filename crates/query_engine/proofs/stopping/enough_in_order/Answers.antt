@@ -1,4 +1,4 @@
-use Rattle.std.proofs.Common.{◌≡◌, ◌∙◌, ℕ, List, refl, sym, ap, subst}
+use Rattle.std.proofs.Common.{List, subst}
 use Rattle.query_plan.specs.means_spec.Cells.{names_in}
 use Rattle.query_plan.specs.means_spec.Paging.{orders_cmp}
 use Rattle.query_plan.specs.means_spec.World.{rows_in}

@@ -1,4 +1,4 @@
-use Rattle.std.proofs.Common.{◌≡◌, ℕ, Option, drop, take, sym, subst}
+use Rattle.std.proofs.Common.{◌≡◌, ℕ, Option, take, sym, subst}
 use Rattle.query_plan.specs.means_spec.Paging.{from_offset}
 use Rattle.query_engine.proofs.StoppingLaws.{behind_offset}
 use Rattle.query_engine.proofs.stopping.rows_behind.Goals as goal
