@@ -7,16 +7,5 @@ pub mod Places
 pub mod Asked
 pub mod Tried
 pub mod Picks
-pub mod FactLaws
 pub mod Stages
-mod OrderLaws
-mod StoppingLaws
 mod CountLaws
-mod TextCells
-mod WantedLaws
-mod FetchedLaws
-mod PlacedRows
-mod RowReads
-mod JoinLaws
-mod UnionLaws
-mod ReadLaws

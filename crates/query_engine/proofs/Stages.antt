@@ -11,7 +11,7 @@ use Rattle.query_plan.specs.Plan.{Shape, Stage, whole, answers, shaped, shaped_s
 use Rattle.fleet_tables.specs.fleet_rows.declared.row.Entity.{Entity}
 use Rattle.query_reach.specs.Pins.{stage_reads, stages_read}
 use Rattle.query_engine.specs.Answers.{IsAnswered, IsStageAnswered}
-use Rattle.query_engine.specs.Stopping.{IsEnough, first_of}
+use Rattle.query_reading.specs.Stopping.{IsEnough, first_of}
 use Rattle.query_engine.specs.declared.answer.Answered.{Answered}
 use Rattle.query_engine.specs.declared.answer.Answered.TheVariants.{Rows, TooLarge}
 

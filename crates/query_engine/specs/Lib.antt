@@ -1,8 +1,3 @@
-pub mod Fetched
-pub mod Wanted
-pub mod Joins
-pub mod Ordered
-pub mod Stopping
 pub mod Counting
 pub mod Added
 pub mod Best

@@ -15,16 +15,12 @@ ghost use Rattle.query_engine.specs.Answers.{IsStageAnswered, IsSolved, MatchPic
 ghost use Rattle.query_engine.specs.Courses.{HasRead, IsCourse};
 ghost use Rattle.query_rows.specs.Tries.{HasTried};
 ghost use Rattle.query_rows.specs.Tables.{world_of};
-ghost use Rattle.query_engine.specs.declared.reading.Reading.TheVariants.{InReach};
+ghost use Rattle.query_reading.specs.declared.reading.Reading.TheVariants.{InReach};
 ghost use Rattle.query_engine.specs.declared.engine.QueryFault.TheVariants.{Memory};
 
 use crate::answer::{Answered, answer_of};
-use crate::choose::chosen_rows;
 use crate::counting::counted;
-use crate::joins::nodes_for;
-use crate::reading::{Reading, pins_for};
 use crate::shown::output_names;
-use crate::stopping::enough_for;
 use fleet_tables::fleet_rows::Names;
 use fleet_tables::{Steps, Tables};
 use paging_text::OutRows;
@@ -33,6 +29,7 @@ use query_plan::ast_tree::{Level, Query, entity_of};
 use query_plan::query_spec::{Path, Pattern, Place};
 use query_plan::{Plan, Shape, Stage, plan_of};
 use query_reach::facts_of;
+use query_reading::{Reading, chosen_rows, enough_for, nodes_for, pins_for};
 use query_rows::{Known, known_of, ready_steps};
 use std::alloc::{AllocError, AllocFailed, Global};
 use std::marker::Brand;

@@ -7,13 +7,8 @@
 //! that overflows 128 bits is reported exactly if the definition reports one, with the same place. The rows that are read are at
 //! most those of the query's bound (`query_reach`). Contracts see the tables as a world of queries (`query_rows`).
 //!
-//! A level reads the rows that show what its filter demands of certnames, names of facts, types and titles; the tables find their
-//! places without reading a row. Each other row would fail the filter. If a conjunct demands that a row's node is one of those of an
-//! inner level, and that level found few, only the rows of these nodes are asked for. [`select_reading`] can read all rows instead. A
-//! fact that a filter names is one row more for each row that is read.
-//!
-//! A level with a limit and without groups stops as soon as it has chosen the rows up to the end of its page, if the page has the
-//! order of the tables: by certname, and facts by name within a node. A bare count of an entity reads no row.
+//! A level reads the rows that show what its filter demands (`query_reading`). [`select_reading`] can read all rows instead. A level
+//! with a limit stops at the end of its page, where the page has the order of the tables. A bare count of an entity reads no row.
 //!
 //! Each step of a filter tests a single row. The rows of a level within `in` or `subquery`, and the literals of a long array, are
 //! indexed by a text once. So a row is compared with few of them. Grouping takes a look-up for each row, and then sorts the groups.
@@ -26,28 +21,19 @@
 //!   `stands`). If the pattern reader tells what it read, it is the first pattern refused (`asked`, `course`).
 //! - The pattern reader counts BadPattern (`cause`). What patterns match stays (`same`). `bound` holds of each answer.
 //!
-//! Costs: rows are copied one by one. The places of a level's rows take 8 bytes each, unless a page is read from the first row on. An
-//! array of more than eight literals is indexed. Activity is asked only of rows that pass the filter. Where a filter has patterns and
-//! names no fact, and all rows are asked for, they are read in blocks of 1,024, and each pattern is tried on the texts of a block in one
-//! call.
+//! Costs: rows are copied one by one. An array of more than eight literals is indexed.
 #![tactic(auto)]
 
 mod answer;
-mod blocks;
-mod choose;
 mod counting;
 mod engine;
-mod facts;
 mod functions;
 mod groups;
-mod joins;
-mod reading;
 mod shown;
-mod stopping;
 mod sums;
 
 pub use engine::{Picked, QueryFault, select, select_reading, select_uncounted};
-pub use reading::Reading;
+pub use query_reading::Reading;
 
 // Re-exports for the crates above.
 pub use fleet_tables::{Steps, Tables};

@@ -5,7 +5,7 @@ use Rattle.query_plan.specs.Plan.{solved, solved_sum}
 use Rattle.query_reach.specs.Pins.{stages_read}
 use Rattle.query_rows.specs.Tables.{world_of}
 use Rattle.query_rows.specs.Tries.{HasTried}
-use Rattle.query_engine.specs.declared.reading.Reading.TheVariants.{InReach}
+use Rattle.query_reading.specs.declared.reading.Reading.TheVariants.{InReach}
 use Rattle.query_engine.proofs.engine.solve.Given as goal
 
 abbrev pub invariant-loop-stage : goal.invariant-loop-stage

@@ -1,6 +1,0 @@
-use Rattle.std.proofs.Common.{◌∙◌, ◌++◌, sym, ap}
-use Rattle.query_engine.specs.Fetched.{one_in}
-use Rattle.query_engine.proofs.facts.push_fact.Goals as goal
-
-pub returns-clause-value : goal.returns-clause-value
-returns-clause-value g c = c.in_ok-push.ensures.ok ∙ ap (λ o. c.args.facts.now ++ one_in o) (sym c.in_ok-row.ensures.row.1)

@@ -1,0 +1,11 @@
+mod OrderLaws
+mod StoppingLaws
+mod TextCells
+mod WantedLaws
+mod FetchedLaws
+mod FactLaws
+mod PlacedRows
+pub mod RowReads
+mod JoinLaws
+mod UnionLaws
+mod ReadLaws

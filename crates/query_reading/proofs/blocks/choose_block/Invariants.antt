@@ -1,0 +1,19 @@
+use Rattle.std.proofs.Common.{◌≡◌, ◌++◌, ℕ, List, map, drop}
+use Rattle.std.specs.Prelude.{filter}
+use Rattle.query_plan.specs.Plan.{is_chosen}
+use Rattle.query_plan.specs.Made.{stage_of}
+use Rattle.query_rows.specs.Scenes.{world}
+use Rattle.query_rows.specs.Tries.{HasTried}
+use Rattle.query_reading.proofs.blocks.choose_block.Given as goal
+
+abbrev pub invariant-choosing : goal.invariant-choosing
+invariant-choosing g l =
+    let ps = map (λ c. g.P.Patterns.made_from c) l.compiled in
+    let test = is_chosen (world l.scene (g.P.Patterns.says l.fn.patterns)) ps l.found (stage_of l.stage) in
+    record {
+      same : (p t : List ℕ) → g.P.Patterns.says l.patterns p t ≡ g.P.Patterns.says l.fn.patterns p t;
+      calm : g.P.Patterns.refusals l.patterns ≡ g.P.Patterns.refusals l.fn.patterns;
+      silent : g.P.Patterns.asked l.patterns ≡ g.P.Patterns.asked l.fn.patterns;
+      tried : HasTried (g.P.Patterns.course l.fn.patterns) (g.P.Patterns.course l.patterns);
+      rest : l.chosen ++ filter test (drop l.i l.rows) ≡ l.fn.chosen ++ filter test l.rows;
+    }

@@ -1,0 +1,33 @@
+use Rattle.std.proofs.Common.{◌≡◌, ◌∙◌, ◌++◌, ℕ, List, Bool, map, ap, sym, subst}
+use Rattle.std.specs.Prelude.{filter}
+use Rattle.std.proofs.lemmas.Result.{IfOk-weaker}
+use Rattle.query_plan.specs.Plan.{is_chosen}
+use Rattle.query_plan.specs.Made.{stage_of}
+use Rattle.query_plan.specs.table_spec.Rows.{Cells}
+use Rattle.query_rows.specs.Columns.{AreColumns}
+use Rattle.query_rows.specs.Scenes.{world}
+use Rattle.query_rows.proofs.TryLaws.{tried_then}
+use Rattle.query_rows.specs.declared.blocks.Column.{Column}
+use Rattle.query_reading.proofs.blocks.choose_tried.Goals as goal
+
+pub choose_block-requires-clause-columns : goal.choose_block-requires-clause-columns
+choose_block-requires-clause-columns g c =
+    let ps : List (List ℕ) = map (λ x. g.P.Patterns.made_from x) c.args.compiled.now in
+    let says : List ℕ → List ℕ → Bool = g.P.Patterns.says c.args.patterns.now in
+    let now_says : List ℕ → List ℕ → Bool = g.P.Patterns.says c.columns_of.new.patterns in
+    let alike : now_says ≡ says = λ i. λ p t. c.columns_of.ensures.same p t i in
+    let rows : List Cells = c.args.rows.now in
+    subst (λ (m : List ℕ → List ℕ → Bool). AreColumns c.args.scene.now m ps c.args.stage.now.entity rows c.args.steps.now c.as_slice-list.result.now) (sym alike)
+    (subst (λ (cs : List Column). AreColumns c.args.scene.now says ps c.args.stage.now.entity rows c.args.steps.now cs) (sym c.as_slice-list.ensures.value) c.in_ok-columns.ensures.value)
+
+pub returns-clause-value : goal.returns-clause-value
+returns-clause-value g c =
+    let ps : List (List ℕ) = map (λ x. g.P.Patterns.made_from x) c.args.compiled.now in
+    let test : (List ℕ → List ℕ → Bool) → Cells → Bool = λ m. is_chosen (world c.args.scene.now m) ps c.args.found.now (stage_of c.args.stage.now) in
+    let says : List ℕ → List ℕ → Bool = g.P.Patterns.says c.args.patterns.now in
+    let now_says : List ℕ → List ℕ → Bool = g.P.Patterns.says c.columns_of.new.patterns in
+    let alike : test now_says ≡ test says = λ i. test (λ p t. c.columns_of.ensures.same p t i) in
+    IfOk-weaker c.choose_block.result _ _ (λ u h. h ∙ ap (λ t. c.args.chosen.now ++ filter t c.args.rows.now) alike) c.choose_block.ensures.value
+
+pub returns-clause-tried : goal.returns-clause-tried
+returns-clause-tried g c = tried_then _ _ _ c.columns_of.ensures.tried c.choose_block.ensures.tried

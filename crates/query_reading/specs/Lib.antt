@@ -1,0 +1,5 @@
+pub mod Fetched
+pub mod Wanted
+pub mod Joins
+pub mod Ordered
+pub mod Stopping

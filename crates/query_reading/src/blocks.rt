@@ -1,0 +1,300 @@
+//! Reads rows in blocks, where a filter has patterns: each pattern is tried on all texts of a block in one call.
+ghost use Rattle.std.specs.Prelude.{◌≡◌, ◌++◌, ◌∷◌, ◌+◌, ◌<◌, ◌≤◌, [], ℕ, List, map, length, IfOk, OnOk, Some, filter, slice_range};
+ghost use Rattle.std.specs.List.{AllByRecursion};
+ghost use Rattle.query_plan.specs.Plan.{is_chosen};
+ghost use Rattle.query_plan.specs.Made.{stage_of};
+ghost use Rattle.fleet_tables.specs.table_machine.Rows.{table_rows};
+ghost use Rattle.query_reach.specs.Pins.{steps_facts};
+ghost use Rattle.query_rows.specs.Columns.{AreGiven, AreColumns};
+ghost use Rattle.query_rows.specs.Tries.{HasTried};
+ghost use Rattle.query_rows.specs.Scenes.{world};
+ghost use Rattle.query_rows.specs.Tables.{world_of};
+ghost use Rattle.query_reading.specs.Fetched.{picked};
+
+use fleet_tables::fleet_rows::Entity;
+use fleet_tables::{Steps, Tables};
+use paging_text::Lines;
+use pattern_port::Patterns;
+use query_plan::{Stage, Step};
+use query_rows::{Column, Known, Ready, Scene, columns_of, fact_rows, holds_given, is_seen};
+use row_views::{View, view_at};
+use std::alloc::{AllocError, Global};
+use std::sync::ledger::Ledger;
+
+// The most rows of a block, which are looked at together.
+const BLOCK: usize = 1024;
+
+fn has_pattern(step: &Step) -> bool {
+    match step {
+        Step::Fits(_, _) => true,
+        _ => false,
+    }
+}
+
+/// Whether a pattern stands in the steps.
+pub(crate) fn have_patterns(steps: &[Ready]) -> bool {
+    for ready in steps {
+        if has_pattern(ready.step) {
+            return true;
+        }
+    }
+    false
+}
+
+// The rows at the places. Each is read once.
+fn views_at<'t, L: Ledger>(
+    alloc: Global,
+    tables: &'t Tables,
+    entity: Entity,
+    places: &[usize],
+    walk: &mut Steps<L>,
+) -> Result<Vec<View<'t>>, AllocError>
+    requires places { AllByRecursion (λ place. place < length (table_rows entity tables.now)) places.now }
+    ensures cost { walk.new ≤ walk.old + length places.now }
+    ensures value { IfOk result (λ views. views.items ≡ picked (table_rows entity tables.now) places.now) }
+{
+    let mut views = Vec::new(alloc);
+    'viewing: for place in places {
+        views.push(view_at(alloc, tables, entity, *place, walk)?)?;
+    }
+    Ok(views)
+}
+
+fn is_chosen_given<P: Patterns>(
+    scene: &Scene,
+    patterns: &mut P,
+    compiled: &[P::Compiled],
+    found: &[Known],
+    stage: &Stage,
+    steps: &[Ready],
+    columns: &[Column],
+    i: usize,
+    row: &View<'_>,
+    stack: &mut Vec<bool>,
+) -> Result<bool, AllocError>
+    requires steps { steps.now ≡ stage.now.steps }
+    requires given { AreGiven scene.now (P.says patterns.old) (map (λ c. P.made_from c) compiled.now) stage.now.entity row.now steps.now columns.now i }
+    ensures same { (p t : List ℕ) → P.says patterns.new p t ≡ P.says patterns.old p t }
+    ensures calm { P.refusals patterns.new ≡ P.refusals patterns.old }
+    ensures silent { P.asked patterns.new ≡ P.asked patterns.old }
+    ensures tried { HasTried (P.course patterns.old) (P.course patterns.new) }
+    ensures value { IfOk result (λ b. b ≡ is_chosen (world scene.now (P.says patterns.old)) (map (λ c. P.made_from c) compiled.now) found.now
+        (stage_of stage.now) row.now) }
+{
+    if holds_given(
+        scene,
+        stage.entity,
+        row,
+        patterns,
+        compiled,
+        found,
+        steps,
+        columns,
+        i,
+        stack,
+    )? {
+        is_seen(scene, stage.entity, stage.state, row)
+    } else {
+        Ok(false)
+    }
+}
+
+// Appends row `i` of a block, if the stage chooses it.
+fn choose_given<P: Patterns>(
+    scene: &Scene,
+    patterns: &mut P,
+    compiled: &[P::Compiled],
+    found: &[Known],
+    stage: &Stage,
+    steps: &[Ready],
+    columns: &[Column],
+    i: usize,
+    row: &View<'_>,
+    stack: &mut Vec<bool>,
+    chosen: &mut Lines,
+) -> Result<(), AllocError>
+    requires steps { steps.now ≡ stage.now.steps }
+    requires given { AreGiven scene.now (P.says patterns.old) (map (λ c. P.made_from c) compiled.now) stage.now.entity row.now steps.now columns.now i }
+    ensures same { (p t : List ℕ) → P.says patterns.new p t ≡ P.says patterns.old p t }
+    ensures calm { P.refusals patterns.new ≡ P.refusals patterns.old }
+    ensures silent { P.asked patterns.new ≡ P.asked patterns.old }
+    ensures tried { HasTried (P.course patterns.old) (P.course patterns.new) }
+    ensures value { OnOk result (chosen.new ≡ chosen.old ++ filter
+        (is_chosen (world scene.now (P.says patterns.old)) (map (λ c. P.made_from c) compiled.now) found.now (stage_of stage.now)) (row.now ∷ [])) }
+{
+    if is_chosen_given(
+        scene, patterns, compiled, found, stage, steps, columns, i, row, stack,
+    )? {
+        chosen.push(row.cells(scene.alloc)?)?;
+    }
+    Ok(())
+}
+
+// Appends the rows of a block that the stage chooses.
+#[tactic(auto, using(query_rows::proofs::TryLaws::tried_nothing, query_rows::proofs::TryLaws::tried_then))]
+fn choose_block<P: Patterns>(
+    scene: &Scene,
+    patterns: &mut P,
+    compiled: &[P::Compiled],
+    found: &[Known],
+    stage: &Stage,
+    steps: &[Ready],
+    columns: &[Column],
+    rows: &[View<'_>],
+    chosen: &mut Lines,
+) -> Result<(), AllocError>
+    requires steps { steps.now ≡ stage.now.steps }
+    requires columns { AreColumns scene.now (P.says patterns.old) (map (λ c. P.made_from c) compiled.now) stage.now.entity rows.now steps.now columns.now }
+    ensures same { (p t : List ℕ) → P.says patterns.new p t ≡ P.says patterns.old p t }
+    ensures calm { P.refusals patterns.new ≡ P.refusals patterns.old }
+    ensures silent { P.asked patterns.new ≡ P.asked patterns.old }
+    ensures tried { HasTried (P.course patterns.old) (P.course patterns.new) }
+    ensures value { OnOk result (chosen.new ≡ chosen.old ++ filter
+        (is_chosen (world scene.now (P.says patterns.old)) (map (λ c. P.made_from c) compiled.now) found.now (stage_of stage.now)) rows.now) }
+{
+    let mut stack = Vec::new(scene.alloc);
+    'choosing: for i in 0..rows.len() {
+        choose_given(
+            scene, patterns, compiled, found, stage, steps, columns, i, &rows[i], &mut stack,
+            chosen,
+        )?;
+    }
+    Ok(())
+}
+
+// The same, with the columns of the block.
+#[tactic(auto, using(query_rows::proofs::TryLaws::tried_then))]
+fn choose_tried<P: Patterns>(
+    scene: &Scene,
+    patterns: &mut P,
+    compiled: &[P::Compiled],
+    found: &[Known],
+    stage: &Stage,
+    steps: &[Ready],
+    rows: &[View<'_>],
+    chosen: &mut Lines,
+) -> Result<(), AllocError>
+    requires { steps.now ≡ stage.now.steps }
+    ensures same { (p t : List ℕ) → P.says patterns.new p t ≡ P.says patterns.old p t }
+    ensures calm { P.refusals patterns.new ≡ P.refusals patterns.old }
+    ensures silent { P.asked patterns.new ≡ P.asked patterns.old }
+    ensures tried { HasTried (P.course patterns.old) (P.course patterns.new) }
+    ensures value { OnOk result (chosen.new ≡ chosen.old ++ filter
+        (is_chosen (world scene.now (P.says patterns.old)) (map (λ c. P.made_from c) compiled.now) found.now (stage_of stage.now)) rows.now) }
+{
+    let columns = columns_of(scene, stage.entity, rows, patterns, compiled, steps)?;
+    let list = columns.as_slice();
+    choose_block(
+        scene, patterns, compiled, found, stage, steps, list, rows, chosen,
+    )
+}
+
+// Reads a block, and appends its rows that the stage chooses.
+#[tactic(auto, using(query_rows::proofs::TryLaws::tried_nothing))]
+fn read_block<L: Ledger, P: Patterns>(
+    alloc: Global,
+    tables: &Tables,
+    patterns: &mut P,
+    compiled: &[P::Compiled],
+    found: &[Known],
+    stage: &Stage,
+    steps: &[Ready],
+    entity: Entity,
+    places: &[usize],
+    chosen: &mut Lines,
+    walk: &mut Steps<L>,
+) -> Result<(), AllocError>
+    requires steps { steps.now ≡ stage.now.steps }
+    requires names { steps_facts stage.now.steps ≡ [] }
+    requires entity { stage.now.entity ≡ Some entity }
+    requires places { AllByRecursion (λ place. place < length (table_rows entity tables.now)) places.now }
+    ensures same { (p t : List ℕ) → P.says patterns.new p t ≡ P.says patterns.old p t }
+    ensures calm { P.refusals patterns.new ≡ P.refusals patterns.old }
+    ensures silent { P.asked patterns.new ≡ P.asked patterns.old }
+    ensures tried { HasTried (P.course patterns.old) (P.course patterns.new) }
+    ensures cost { walk.new ≤ walk.old + length places.now }
+    ensures value { OnOk result (chosen.new ≡ chosen.old ++ filter (is_chosen (world_of tables.now (P.says patterns.old))
+        (map (λ c. P.made_from c) compiled.now) found.now (stage_of stage.now)) (picked (table_rows entity tables.now) places.now)) }
+{
+    let views = views_at(alloc, tables, entity, places, walk)?;
+    let facts = fact_rows(alloc, patterns.keys(), Lines::new(alloc))?;
+    let scene = Scene {
+        alloc,
+        tables,
+        facts: &facts,
+    };
+    let rows = views.as_slice();
+    choose_tried(
+        &scene, patterns, compiled, found, stage, steps, rows, chosen,
+    )
+}
+
+// Where the block that begins at `at` ends.
+fn block_end(at: usize, count: usize) -> usize
+    requires { at < count }
+    ensures more { at < result }
+    ensures within { result ≤ count }
+{
+    if count - at > BLOCK {
+        at + BLOCK
+    } else {
+        count
+    }
+}
+
+fn block_of(places: &[usize], at: usize, end: usize) -> &[usize]
+    requires order { at ≤ end }
+    requires within { end ≤ length places.now }
+    ensures { result.now ≡ slice_range places.now at end }
+{
+    &places[at..end]
+}
+
+/// The chosen rows among those at the places, read block by block. No field of the filter names a fact.
+#[tactic(auto, using(query_rows::proofs::TryLaws::tried_nothing, query_rows::proofs::TryLaws::tried_then))]
+pub(crate) fn read_blocks<L: Ledger, P: Patterns>(
+    alloc: Global,
+    tables: &Tables,
+    patterns: &mut P,
+    compiled: &[P::Compiled],
+    found: &[Known],
+    stage: &Stage,
+    steps: &[Ready],
+    entity: Entity,
+    places: &[usize],
+    walk: &mut Steps<L>,
+) -> Result<Lines, AllocError>
+    requires steps { steps.now ≡ stage.now.steps }
+    requires names { steps_facts stage.now.steps ≡ [] }
+    requires entity { stage.now.entity ≡ Some entity }
+    requires places { AllByRecursion (λ place. place < length (table_rows entity tables.now)) places.now }
+    ensures same { (p t : List ℕ) → P.says patterns.new p t ≡ P.says patterns.old p t }
+    ensures calm { P.refusals patterns.new ≡ P.refusals patterns.old }
+    ensures silent { P.asked patterns.new ≡ P.asked patterns.old }
+    ensures tried { HasTried (P.course patterns.old) (P.course patterns.new) }
+    ensures cost { walk.new ≤ walk.old + length places.now }
+    ensures value { IfOk result (λ rows. rows ≡ filter (is_chosen (world_of tables.now (P.says patterns.old))
+        (map (λ c. P.made_from c) compiled.now) found.now (stage_of stage.now)) (picked (table_rows entity tables.now) places.now)) }
+{
+    let mut chosen = Lines::new(alloc);
+    let mut at = 0;
+    'reading: while at < places.len() {
+        let end = block_end(at, places.len());
+        let block = block_of(places, at, end);
+        read_block(
+            alloc,
+            tables,
+            patterns,
+            compiled,
+            found,
+            stage,
+            steps,
+            entity,
+            block,
+            &mut chosen,
+            walk,
+        )?;
+        at = end;
+    }
+    Ok(chosen)
+}
