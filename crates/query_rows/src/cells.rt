@@ -66,7 +66,7 @@ pub fn node_in(entity: Option<Entity>, row: &[Cell]) -> &str
 }
 
 /// The text that is seen, if it is one.
-pub(crate) fn text_seen<'a>(seen: Seen<'a>) -> Option<&'a Text>
+pub fn text_seen<'a>(seen: Seen<'a>) -> Option<&'a Text>
     ensures { option_copied result ≡ text_in (seen_value seen.entry) }
 {
     match seen {

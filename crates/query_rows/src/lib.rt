@@ -29,7 +29,7 @@ mod seen;
 mod tuples;
 
 pub use blocks::{Column, columns_of, holds_given};
-pub use cells::{column_names, copy_or_null, node_in, node_seen};
+pub use cells::{column_names, copy_or_null, node_in, node_seen, text_seen};
 pub use compare::same_cell;
 pub use index::{Index, PlaceList};
 pub use known::{FactRows, Known, Lookup, fact_rows, known_of};
