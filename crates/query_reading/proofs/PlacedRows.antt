@@ -151,3 +151,28 @@ pub take_at_most : (k : ℕ) (xs : List ℕ) → length (take k xs) ≤ k
 take_at_most zero xs = omega arith
 take_at_most (suc k) [] = omega arith
 take_at_most (suc k) (x ∷ xs) = let rest = take_at_most k xs in omega (arith, rest)
+
+-- the row at the front of those that are left
+pub there_at : {A : Type 0} (xs : List A) (i : ℕ) (x : A) (left : List A) → drop i xs ≡ x ∷ left → slice_get xs i ≡ Some x
+there_at [] zero x left h = cc
+there_at [] (suc i) x left h = cc
+there_at (y ∷ xs) zero x left h = cc
+there_at (y ∷ xs) (suc i) x left h = there_at xs i x left h
+
+behind_it : {A : Type 0} (xs : List A) (i : ℕ) (x : A) (left : List A) → drop i xs ≡ x ∷ left → drop (suc i) xs ≡ left
+behind_it [] zero x left h = cc
+behind_it [] (suc i) x left h = cc
+behind_it (y ∷ xs) zero x left h = cc
+behind_it (y ∷ xs) (suc i) x left h = behind_it xs i x left h
+
+pub left_behind : {A : Type 0} (xs : List A) (i : ℕ) (x : A) (left : List A) → drop i xs ≡ x ∷ left → left ≡ drop (i + 1) xs
+left_behind xs i x left h = sym (behind_it xs i x left h) ∙ (λ k. drop (let n : suc i ≡ i + 1 = omega arith in n k) xs)
+
+-- one row more of those that are left
+pub chosen_more : (p q : Cells → Bool) → q ≡ p → (row : Cells) (left : List Cells) (chosen new whole : List Cells) → new ≡ chosen ++ filter q (row ∷ []) → chosen ++ filter p (row ∷ left) ≡ whole → new ++ filter p left ≡ whole
+chosen_more p q same row left chosen new whole e h =
+    ap (λ l. l ++ filter p left) e
+    ∙ append_assoc chosen (filter q (row ∷ [])) (filter p left)
+    ∙ ap (λ r. chosen ++ (filter r (row ∷ []) ++ filter p left)) same
+    ∙ ap (λ l. chosen ++ l) (sym (filter-append p (row ∷ []) left))
+    ∙ h

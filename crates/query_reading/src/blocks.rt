@@ -1,4 +1,4 @@
-//! Reads rows in blocks, where a filter has patterns: each pattern is tried on all texts of a block in one call.
+//! Reads rows in blocks: each pattern of the filter is tried on all texts of a block in one call.
 ghost use Rattle.std.specs.Prelude.{◌≡◌, ◌++◌, ◌∷◌, ◌+◌, ◌<◌, ◌≤◌, [], ℕ, List, map, length, IfOk, OnOk, Some, filter, slice_range};
 ghost use Rattle.std.specs.List.{AllByRecursion};
 ghost use Rattle.query_plan.specs.Plan.{is_chosen};
@@ -15,7 +15,7 @@ use fleet_tables::fleet_rows::Entity;
 use fleet_tables::{Steps, Tables};
 use paging_text::Lines;
 use pattern_port::Patterns;
-use query_plan::{Stage, Step};
+use query_plan::Stage;
 use query_rows::{Column, Known, Ready, Scene, columns_of, fact_rows, holds_given, is_seen};
 use row_views::{View, view_at};
 use std::alloc::{AllocError, Global};
@@ -23,23 +23,6 @@ use std::sync::ledger::Ledger;
 
 // The most rows of a block, which are looked at together.
 const BLOCK: usize = 1024;
-
-fn has_pattern(step: &Step) -> bool {
-    match step {
-        Step::Fits(_, _) => true,
-        _ => false,
-    }
-}
-
-/// Whether a pattern stands in the steps.
-pub(crate) fn have_patterns(steps: &[Ready]) -> bool {
-    for ready in steps {
-        if has_pattern(ready.step) {
-            return true;
-        }
-    }
-    false
-}
 
 // The rows at the places. Each is read once.
 fn views_at<'t, L: Ledger>(
@@ -53,7 +36,7 @@ fn views_at<'t, L: Ledger>(
     ensures cost { walk.new ≤ walk.old + length places.now }
     ensures value { IfOk result (λ views. views.items ≡ picked (table_rows entity tables.now) places.now) }
 {
-    let mut views = Vec::new(alloc);
+    let mut views = Vec::with_capacity(alloc, places.len())?;
     'viewing: for place in places {
         views.push(view_at(alloc, tables, entity, *place, walk)?)?;
     }
@@ -99,7 +82,7 @@ fn is_chosen_given<P: Patterns>(
     }
 }
 
-// Appends row `i` of a block, if the stage chooses it.
+// Makes row `i` of a block and appends it, if the stage chooses it.
 fn choose_given<P: Patterns>(
     scene: &Scene,
     patterns: &mut P,
@@ -109,23 +92,23 @@ fn choose_given<P: Patterns>(
     steps: &[Ready],
     columns: &[Column],
     i: usize,
-    row: &View<'_>,
+    row: View<'_>,
     stack: &mut Vec<bool>,
     chosen: &mut Lines,
 ) -> Result<(), AllocError>
     requires steps { steps.now ≡ stage.now.steps }
-    requires given { AreGiven scene.now (P.says patterns.old) (map (λ c. P.made_from c) compiled.now) stage.now.entity row.now steps.now columns.now i }
+    requires given { AreGiven scene.now (P.says patterns.old) (map (λ c. P.made_from c) compiled.now) stage.now.entity row steps.now columns.now i }
     ensures same { (p t : List ℕ) → P.says patterns.new p t ≡ P.says patterns.old p t }
     ensures calm { P.refusals patterns.new ≡ P.refusals patterns.old }
     ensures silent { P.asked patterns.new ≡ P.asked patterns.old }
     ensures tried { HasTried (P.course patterns.old) (P.course patterns.new) }
     ensures value { OnOk result (chosen.new ≡ chosen.old ++ filter
-        (is_chosen (world scene.now (P.says patterns.old)) (map (λ c. P.made_from c) compiled.now) found.now (stage_of stage.now)) (row.now ∷ [])) }
+        (is_chosen (world scene.now (P.says patterns.old)) (map (λ c. P.made_from c) compiled.now) found.now (stage_of stage.now)) (row.entry ∷ [])) }
 {
     if is_chosen_given(
-        scene, patterns, compiled, found, stage, steps, columns, i, row, stack,
+        scene, patterns, compiled, found, stage, steps, columns, i, &row, stack,
     )? {
-        chosen.push(row.cells(scene.alloc)?)?;
+        chosen.push(row.into_cells(scene.alloc)?)?;
     }
     Ok(())
 }
@@ -140,24 +123,25 @@ fn choose_block<P: Patterns>(
     stage: &Stage,
     steps: &[Ready],
     columns: &[Column],
-    rows: &[View<'_>],
+    rows: Vec<View<'_>>,
     chosen: &mut Lines,
 ) -> Result<(), AllocError>
     requires steps { steps.now ≡ stage.now.steps }
-    requires columns { AreColumns scene.now (P.says patterns.old) (map (λ c. P.made_from c) compiled.now) stage.now.entity rows.now steps.now columns.now }
+    requires columns { AreColumns scene.now (P.says patterns.old) (map (λ c. P.made_from c) compiled.now) stage.now.entity rows.items steps.now columns.now }
     ensures same { (p t : List ℕ) → P.says patterns.new p t ≡ P.says patterns.old p t }
     ensures calm { P.refusals patterns.new ≡ P.refusals patterns.old }
     ensures silent { P.asked patterns.new ≡ P.asked patterns.old }
     ensures tried { HasTried (P.course patterns.old) (P.course patterns.new) }
     ensures value { OnOk result (chosen.new ≡ chosen.old ++ filter
-        (is_chosen (world scene.now (P.says patterns.old)) (map (λ c. P.made_from c) compiled.now) found.now (stage_of stage.now)) rows.now) }
+        (is_chosen (world scene.now (P.says patterns.old)) (map (λ c. P.made_from c) compiled.now) found.now (stage_of stage.now)) rows.entry.items) }
 {
     let mut stack = Vec::new(scene.alloc);
-    'choosing: for i in 0..rows.len() {
+    let mut i = 0;
+    'choosing: for row in rows {
         choose_given(
-            scene, patterns, compiled, found, stage, steps, columns, i, &rows[i], &mut stack,
-            chosen,
+            scene, patterns, compiled, found, stage, steps, columns, i, row, &mut stack, chosen,
         )?;
+        i += 1;
     }
     Ok(())
 }
@@ -171,7 +155,7 @@ fn choose_tried<P: Patterns>(
     found: &[Known],
     stage: &Stage,
     steps: &[Ready],
-    rows: &[View<'_>],
+    rows: Vec<View<'_>>,
     chosen: &mut Lines,
 ) -> Result<(), AllocError>
     requires { steps.now ≡ stage.now.steps }
@@ -180,9 +164,10 @@ fn choose_tried<P: Patterns>(
     ensures silent { P.asked patterns.new ≡ P.asked patterns.old }
     ensures tried { HasTried (P.course patterns.old) (P.course patterns.new) }
     ensures value { OnOk result (chosen.new ≡ chosen.old ++ filter
-        (is_chosen (world scene.now (P.says patterns.old)) (map (λ c. P.made_from c) compiled.now) found.now (stage_of stage.now)) rows.now) }
+        (is_chosen (world scene.now (P.says patterns.old)) (map (λ c. P.made_from c) compiled.now) found.now (stage_of stage.now)) rows.entry.items) }
 {
-    let columns = columns_of(scene, stage.entity, rows, patterns, compiled, steps)?;
+    let seen = rows.as_slice();
+    let columns = columns_of(scene, stage.entity, seen, patterns, compiled, steps)?;
     let list = columns.as_slice();
     choose_block(
         scene, patterns, compiled, found, stage, steps, list, rows, chosen,
@@ -223,9 +208,8 @@ fn read_block<L: Ledger, P: Patterns>(
         tables,
         facts: &facts,
     };
-    let rows = views.as_slice();
     choose_tried(
-        &scene, patterns, compiled, found, stage, steps, rows, chosen,
+        &scene, patterns, compiled, found, stage, steps, views, chosen,
     )
 }
 

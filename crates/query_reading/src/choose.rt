@@ -15,7 +15,7 @@ ghost use Rattle.query_reading.specs.Fetched.{picked, slice_one};
 ghost use Rattle.query_reading.specs.Joins.{Joins, step_join};
 ghost use Rattle.query_reading.specs.Stopping.{first_of};
 
-use crate::blocks::{have_patterns, read_blocks};
+use crate::blocks::read_blocks;
 use crate::facts::facts_for;
 use crate::joins::Nodes;
 use crate::reading::{places_for, reads_front};
@@ -172,14 +172,14 @@ fn read_each<L: Ledger, P: Patterns>(
     Ok(chosen)
 }
 
-// Whether rows are read in blocks: a pattern is tried on them, no field names a fact, and all of them are asked for.
-fn goes_by_blocks(steps: &[Ready], names: &[&Text], enough: Option<usize>) -> bool
+// Whether rows are read in blocks: no field names a fact, and all of them are asked for.
+fn goes_by_blocks(names: &[&Text], enough: Option<usize>) -> bool
     ensures names { result ≡ true → names.now ≡ [] }
     ensures all { result ≡ true → enough ≡ None }
 {
     match names {
         [] => match enough {
-            None => have_patterns(steps),
+            None => true,
             Some(_) => false,
         },
         _ => false,
@@ -213,7 +213,7 @@ fn read_places<L: Ledger, P: Patterns>(
     ensures value { IfOk result (λ rows. rows ≡ first_of enough (filter (is_chosen (world_of tables.now (P.says patterns.old))
         (map (λ c. P.made_from c) compiled.now) found.now (stage_of stage.now)) (picked (table_rows entity tables.now) places.now))) }
 {
-    if goes_by_blocks(steps, names, enough) {
+    if goes_by_blocks(names, enough) {
         read_blocks(
             alloc, tables, patterns, compiled, found, stage, steps, entity, places, walk,
         )

@@ -13,9 +13,9 @@
 //! A level with a limit and without groups stops as soon as it has chosen the rows up to the end of its page, if the page has the
 //! order of the tables: by certname, and facts by name within a node.
 //!
-//! Costs: the places of a level's rows take 8 bytes each, unless a page is read from the first row on. Activity is asked only of rows
-//! that pass the filter. Where a filter has patterns and names no fact, and all rows are asked for, they are read in blocks of 1,024,
-//! and each pattern is tried on the texts of a block in one call.
+//! Costs: the places of a level's rows take 8 bytes each, unless a page is read from the first row on. Where the filter names no fact
+//! and all rows are asked for, they are read in blocks of 1,024, and each pattern is tried on the texts of a block in one call. A row
+//! is looked at by reference, and made only if it is chosen. Activity is asked only of rows that pass the filter.
 #![tactic(auto)]
 
 mod blocks;

@@ -16,9 +16,10 @@ choose_block-requires-clause-columns g c =
     let says : List ℕ → List ℕ → Bool = g.P.Patterns.says c.args.patterns.now in
     let now_says : List ℕ → List ℕ → Bool = g.P.Patterns.says c.columns_of.new.patterns in
     let alike : now_says ≡ says = λ i. λ p t. c.columns_of.ensures.same p t i in
-    let rows : List Cells = c.args.rows.now in
+    let rows : List Cells = c.args.rows.items in
     subst (λ (m : List ℕ → List ℕ → Bool). AreColumns c.args.scene.now m ps c.args.stage.now.entity rows c.args.steps.now c.as_slice-list.result.now) (sym alike)
-    (subst (λ (cs : List Column). AreColumns c.args.scene.now says ps c.args.stage.now.entity rows c.args.steps.now cs) (sym c.as_slice-list.ensures.value) c.in_ok-columns.ensures.value)
+    (subst (λ (cs : List Column). AreColumns c.args.scene.now says ps c.args.stage.now.entity rows c.args.steps.now cs) (sym c.as_slice-list.ensures.value)
+    (subst (λ (rs : List Cells). AreColumns c.args.scene.now says ps c.args.stage.now.entity rs c.args.steps.now c.in_ok-columns.columns.items) c.as_slice-seen.ensures.value c.in_ok-columns.ensures.value))
 
 pub returns-clause-value : goal.returns-clause-value
 returns-clause-value g c =
@@ -27,7 +28,7 @@ returns-clause-value g c =
     let says : List ℕ → List ℕ → Bool = g.P.Patterns.says c.args.patterns.now in
     let now_says : List ℕ → List ℕ → Bool = g.P.Patterns.says c.columns_of.new.patterns in
     let alike : test now_says ≡ test says = λ i. test (λ p t. c.columns_of.ensures.same p t i) in
-    IfOk-weaker c.choose_block.result _ _ (λ u h. h ∙ ap (λ t. c.args.chosen.now ++ filter t c.args.rows.now) alike) c.choose_block.ensures.value
+    IfOk-weaker c.choose_block.result _ _ (λ u h. h ∙ ap (λ t. c.args.chosen.now ++ filter t c.args.rows.items) alike) c.choose_block.ensures.value
 
 pub returns-clause-tried : goal.returns-clause-tried
 returns-clause-tried g c = tried_then _ _ _ c.columns_of.ensures.tried c.choose_block.ensures.tried

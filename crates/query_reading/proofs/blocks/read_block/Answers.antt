@@ -15,6 +15,6 @@ returns-clause-value g c =
     let alike = block_alike c.args.tables.now says ps c.args.found.now s c.args.entity c.requires.entity c.in_ok-facts.facts c.requires.names in
     IfOk-weaker c.choose_tried.result _ _
     (λ u h. h
-    ∙ ap (λ t. c.args.chosen.now ++ filter t c.as_slice-rows.result.now) alike
-    ∙ ap (λ l. c.args.chosen.now ++ filter (is_chosen (world_of c.args.tables.now says) ps c.args.found.now s) l) (c.as_slice-rows.ensures.value ∙ c.in_ok-views.ensures.value))
+    ∙ ap (λ t. c.args.chosen.now ++ filter t c.in_ok-views.views.items) alike
+    ∙ ap (λ l. c.args.chosen.now ++ filter (is_chosen (world_of c.args.tables.now says) ps c.args.found.now s) l) c.in_ok-views.ensures.value)
     c.choose_tried.ensures.value
