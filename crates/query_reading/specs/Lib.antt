@@ -3,3 +3,4 @@ pub mod Wanted
 pub mod Joins
 pub mod Ordered
 pub mod Stopping
+pub mod Told

@@ -1,5 +1,5 @@
 //! Reads rows in blocks: each pattern of the filter is tried on all texts of a block in one call.
-ghost use Rattle.std.specs.Prelude.{◌≡◌, ◌++◌, ◌∷◌, ◌+◌, ◌<◌, ◌≤◌, [], ℕ, List, map, length, IfOk, OnOk, Some, filter, slice_range};
+ghost use Rattle.std.specs.Prelude.{◌≡◌, ◌++◌, ◌∷◌, ◌+◌, ◌<◌, ◌≤◌, [], ℕ, List, map, length, IfOk, IfSome, OnOk, Some, filter, slice_range};
 ghost use Rattle.std.specs.List.{AllByRecursion};
 ghost use Rattle.query_plan.specs.Plan.{is_chosen};
 ghost use Rattle.query_plan.specs.Made.{stage_of};
@@ -10,13 +10,15 @@ ghost use Rattle.query_rows.specs.Tries.{HasTried};
 ghost use Rattle.query_rows.specs.Scenes.{world};
 ghost use Rattle.query_rows.specs.Tables.{world_of};
 ghost use Rattle.query_reading.specs.Fetched.{picked};
+ghost use Rattle.query_reading.specs.Told.{IsTold};
 
+use crate::activity::{Told, is_seen_once};
 use fleet_tables::fleet_rows::Entity;
 use fleet_tables::{Steps, Tables};
 use paging_text::Lines;
 use pattern_port::Patterns;
 use query_plan::Stage;
-use query_rows::{Column, Known, Ready, Scene, columns_of, fact_rows, holds_given, is_seen};
+use query_rows::{Column, Known, Ready, Scene, columns_of, fact_rows, holds_given};
 use row_views::{View, view_at};
 use std::alloc::{AllocError, Global};
 use std::sync::ledger::Ledger;
@@ -54,9 +56,12 @@ fn is_chosen_given<P: Patterns>(
     i: usize,
     row: &View<'_>,
     stack: &mut Vec<bool>,
+    last: &mut Option<Told>,
 ) -> Result<bool, AllocError>
     requires steps { steps.now ≡ stage.now.steps }
     requires given { AreGiven scene.now (P.says patterns.old) (map (λ c. P.made_from c) compiled.now) stage.now.entity row.now steps.now columns.now i }
+    requires told { IfSome last.old (IsTold scene.now.tables.now) }
+    ensures told { IfSome last.new (IsTold scene.now.tables.now) }
     ensures same { (p t : List ℕ) → P.says patterns.new p t ≡ P.says patterns.old p t }
     ensures calm { P.refusals patterns.new ≡ P.refusals patterns.old }
     ensures silent { P.asked patterns.new ≡ P.asked patterns.old }
@@ -76,7 +81,7 @@ fn is_chosen_given<P: Patterns>(
         i,
         stack,
     )? {
-        is_seen(scene, stage.entity, stage.state, row)
+        is_seen_once(scene, stage.entity, stage.state, row, last)
     } else {
         Ok(false)
     }
@@ -94,10 +99,13 @@ fn choose_given<P: Patterns>(
     i: usize,
     row: View<'_>,
     stack: &mut Vec<bool>,
+    last: &mut Option<Told>,
     chosen: &mut Lines,
 ) -> Result<(), AllocError>
     requires steps { steps.now ≡ stage.now.steps }
     requires given { AreGiven scene.now (P.says patterns.old) (map (λ c. P.made_from c) compiled.now) stage.now.entity row steps.now columns.now i }
+    requires told { IfSome last.old (IsTold scene.now.tables.now) }
+    ensures told { IfSome last.new (IsTold scene.now.tables.now) }
     ensures same { (p t : List ℕ) → P.says patterns.new p t ≡ P.says patterns.old p t }
     ensures calm { P.refusals patterns.new ≡ P.refusals patterns.old }
     ensures silent { P.asked patterns.new ≡ P.asked patterns.old }
@@ -106,7 +114,7 @@ fn choose_given<P: Patterns>(
         (is_chosen (world scene.now (P.says patterns.old)) (map (λ c. P.made_from c) compiled.now) found.now (stage_of stage.now)) (row.entry ∷ [])) }
 {
     if is_chosen_given(
-        scene, patterns, compiled, found, stage, steps, columns, i, &row, stack,
+        scene, patterns, compiled, found, stage, steps, columns, i, &row, stack, last,
     )? {
         chosen.push(row.into_cells(scene.alloc)?)?;
     }
@@ -136,10 +144,12 @@ fn choose_block<P: Patterns>(
         (is_chosen (world scene.now (P.says patterns.old)) (map (λ c. P.made_from c) compiled.now) found.now (stage_of stage.now)) rows.entry.items) }
 {
     let mut stack = Vec::new(scene.alloc);
+    let mut last = None;
     let mut i = 0;
     'choosing: for row in rows {
         choose_given(
-            scene, patterns, compiled, found, stage, steps, columns, i, row, &mut stack, chosen,
+            scene, patterns, compiled, found, stage, steps, columns, i, row, &mut stack, &mut last,
+            chosen,
         )?;
         i += 1;
     }

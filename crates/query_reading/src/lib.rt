@@ -15,9 +15,11 @@
 //!
 //! Costs: the places of a level's rows take 8 bytes each, unless a page is read from the first row on. Where the filter names no fact
 //! and all rows are asked for, they are read in blocks of 1,024, and each pattern is tried on the texts of a block in one call. A row
-//! is looked at by reference, and made only if it is chosen. Activity is asked only of rows that pass the filter.
+//! is looked at by reference, and made only if it is chosen. Activity is asked only of rows that pass the filter, and in a block once for
+//! neighbouring rows of a node.
 #![tactic(auto)]
 
+mod activity;
 mod blocks;
 mod choose;
 mod facts;

@@ -46,6 +46,7 @@ choosing-preserved g c =
       ends = tt;
       count = omega (arith, ap length next, c.choosing.invariant.count);
       left = left_behind rows c.choosing.i row left (sym c.choosing.invariant.left ∙ next);
+      told = c.choose_given.ensures.told;
       same = λ p t. c.choose_given.ensures.same p t ∙ c.choosing.invariant.same p t;
       calm = c.choose_given.ensures.calm ∙ c.choosing.invariant.calm;
       silent = c.choose_given.ensures.silent ∙ c.choosing.invariant.silent;

@@ -14,6 +14,6 @@ returns-then-branch-clause-value g c =
     let wanted : c.in_ok-holds_given.field-0 ≡ true = search rules in
     let told : top (run w ps c.args.found.now c.args.stage.now.entity row c.args.stage.now.steps []) ≡ true =
     ap (λ ss. top (run w ps c.args.found.now c.args.stage.now.entity row ss [])) (sym c.requires.steps) ∙ sym c.in_ok-holds_given.ensures.value ∙ wanted in
-    IfOk-weaker c.is_seen.result _ _
+    IfOk-weaker c.is_seen_once.result _ _
     (λ b h. h says ∙ ap (λ t. t && is_seen w c.args.stage.now.entity c.args.stage.now.state row) (sym told))
-    c.is_seen.ensures
+    c.is_seen_once.ensures.value
