@@ -25,7 +25,8 @@ module _ {D K : Type 0} (w : Sight D K) where
     waits_later h = (h.0, λ start stood. h.1 start (p.stands start stood))
 
     pub room_later : HasNoRoom w b c → HasNoRoom w a c
-    room_later (to_settle job v submitted waits fit verdict spent) = to_settle job v submitted (λ start stood. waits start (p.stands start stood)) fit verdict spent
+    room_later (to_settle job v submitted waits fit verdict spent earlier last) =
+        to_settle job v submitted (λ start stood. waits start (p.stands start stood)) fit verdict spent earlier last
     room_later (to_supersede h) = to_supersede (λ start stood. h start (p.stands start stood))
 
     pub behind_later : (n : ℕ) → RoseBehindFails w n b c → RoseBehindFails w n a c

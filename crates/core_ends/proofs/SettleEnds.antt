@@ -185,7 +185,8 @@ module _ {D K : Type 0} (w : Sight D K) where
     settle_ends settled.NotClaimed says a = a.up (λ e. absurd cc) (λ e. absurd cc) ∙ up
     settle_ends settled.Spent says a = (
       a.up (λ e. absurd cc) (λ e. absurd cc) ∙ up,
-      to_settle job v (says.kept_submitted job.receipt job.command submitted) (λ start stood. release_queued job.receipt old new says.adds start) fit decodes (spent_still job v old new says.leaves.1 says.leaves.2 says.leaves.0),
+      to_settle job v (says.kept_submitted job.receipt job.command submitted) (λ start stood. release_queued job.receipt old new says.adds start) fit decodes
+          (spent_still job v old new says.leaves.1 says.leaves.2 says.leaves.0) old.events.list says.adds,
       release_left job.receipt old new (a.waits tt) says.stands says.adds,
     )
     settle_ends settled.Down says a = let apart : true ≡ false = sym (says.down.0 refl) ∙ up in cc

@@ -29,12 +29,13 @@ use Rattle.core_ends.specs.declared.ends.WorkEnd.TheVariants.{Done, QueueFault, 
 abbrev pub SomethingWaits : {D K : Type 0} → Sight D K → CoreState D K → CoreState D K → Type 0
 SomethingWaits w old new = (new.pending ≢ []) × ((start : History) → Stood w old start → pending_of (history_of new start) ≢ [])
 
--- The log of the queue or of the store has no room for the record that settles a queued command. Or the queue's log has none for
--- superseding the least candidate.
+-- The last event queued a claimed command again: the log of the queue or of the store has no room for the record that settles it.
+-- Or the queue's log has none for superseding the least candidate.
 pub data HasNoRoom {D K : Type 0} (w : Sight D K) (old new : CoreState D K) : Type 0 where
   to_settle : (job : Job) (v : Verdict) → IsSubmitted job.receipt job.command new
       → ((start : History) → Stood w old start → standing job.receipt (history_of new start) ≡ queued)
-      → IsFit job.command → IsVerdictOf v job.command → settles.IsSpent w.store_size job v new → HasNoRoom w old new
+      → IsFit job.command → IsVerdictOf v job.command → settles.IsSpent w.store_size job v new
+      → (earlier : History) → new.events.list ≡ Release job.receipt ∷ earlier → HasNoRoom w old new
   to_supersede : ((start : History) → Stood w old start → IsOverfull new.tables.ttls (queue_size new.queue) (history_of new start)) → HasNoRoom w old new
 
 -- the fault count of one of the queue's two disks rose, or stands at 2^64 - 1
