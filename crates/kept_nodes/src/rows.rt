@@ -275,8 +275,9 @@ fn edge_at(
 }
 
 impl HeldReport {
+    /// The row of the report. Its lists are unpacked for it.
     #[tactic(auto, using(crate::proofs::PackedLaws::printable_same))]
-    fn row(&self, alloc: Global) -> Result<Row, AllocError>
+    pub fn row(&self, alloc: Global) -> Result<Row, AllocError>
         requires { IsReport self.now }
         ensures { IfOk result (λ row. IsRow row entities.Reports (report_cells self.now.received self.now.change)) }
     {
