@@ -103,6 +103,11 @@ module _ (table : Table) (history : Trace) (says : List ℕ → List ℕ → Boo
       (asked_alike w written_text lines_text same_print r)
       (subst (λ v. AnswersAsked before after count later (IsReadFor r) (IsAskedAnswer v written_text r) result) (world_is table history says stands) h)
 
+  pub history_asks : (r : Request) (asked : List Asked) (a : Answer) → IsAskedAnswer (world_of table says) written_text r asked a → IsAskedAnswer (spec.world_of table.ttls history says) lines_text r asked a
+  history_asks r asked a h =
+      let w = spec.world_of table.ttls history says in
+      asked_alike w written_text lines_text same_print r asked a (subst (λ v. IsAskedAnswer v written_text r asked a) (world_is table history says stands) h)
+
 -- and what was served over them
 pub history_served : {H : Type 0} (Step : Command → Submitted → H → H → Type 0) (table : Table) (history : Trace) (says : List ℕ → List ℕ → Bool) (now : ℤ) (end : LinkEnd) (known : Option (List ℕ)) (old new : Outside H) (held holds : Option (List ℕ))
     → Stands table history → Serves Step (world_of table says) written_text now end known old new held holds → Serves Step (spec.world_of table.ttls history says) lines_text now end known old new held holds

@@ -39,6 +39,8 @@ pub use answers::{answer_submitted, error};
 pub use ask::answer_query;
 pub use inbox::Inbox;
 pub use link::{LinkEnd, end_behind, end_of, serve_link};
+pub use parameters::{last_under, parameters_in};
+pub use paths::{is_post, path_of};
 pub use routed::{Routed, route};
 pub use routes_spec::Submitted;
 pub use sending::{Sent, fault_code, fault_text, send, send_memory};

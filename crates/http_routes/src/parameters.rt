@@ -30,10 +30,7 @@ fn parameters(alloc: Global, query: &[u8]) -> Result<Vec<(Text, Text)>, AllocErr
 }
 
 /// The names and values in the URL of a request.
-pub(crate) fn parameters_in(
-    alloc: Global,
-    request: &Request,
-) -> Result<Vec<(Text, Text)>, AllocError>
+pub fn parameters_in(alloc: Global, request: &Request) -> Result<Vec<(Text, Text)>, AllocError>
     ensures { IfOk result (λ list. list.items ≡ parameters_of (query_of request.now.target)) }
 {
     let query = query_of(request.target.as_slice());
@@ -42,7 +39,7 @@ pub(crate) fn parameters_in(
 }
 
 /// The last value with this name.
-pub(crate) fn last_under<'a>(list: &'a [(Text, Text)], name: &str) -> Option<&'a Text>
+pub fn last_under<'a>(list: &'a [(Text, Text)], name: &str) -> Option<&'a Text>
     ensures { option_copied result ≡ last_under name.now list.now }
 {
     let mut found = None;

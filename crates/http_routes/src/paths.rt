@@ -17,8 +17,8 @@ fn split_target(target: &[u8]) -> (&[u8], &[u8])
     }
 }
 
-// The path of a target.
-fn path_of(target: &[u8]) -> &[u8]
+/// The path of a target.
+pub fn path_of(target: &[u8]) -> &[u8]
     ensures { result.now ≡ path_of target.now }
 {
     split_target(target).0
@@ -73,7 +73,7 @@ fn is_get(method: &[u8]) -> bool
 }
 
 /// Whether the method is POST.
-pub(crate) fn is_post(method: &[u8]) -> bool
+pub fn is_post(method: &[u8]) -> bool
     ensures { result ≡ is_post method.now }
 {
     is_equal(method, b"POST")
