@@ -47,7 +47,9 @@ use port_memory::{FuseDisk, MemorySink};
 use std::alloc::{AllocError, Global};
 use std::sync::Wait;
 use std::thread::Threads;
-use test_support::{Given, Pieces, Script, Told, code_of, numbers, parted, query_of, words_of};
+use test_support::{
+    Given, Pieces, Script, Told, add_text, code_of, numbers, parted, query_of, words_of,
+};
 
 /// What a command reads and writes, beside its disks.
 #[derive(Drop)]
@@ -257,11 +259,9 @@ fn tell(
     wrong: &mut String,
 ) -> Result<(), AllocError> {
     script.note(alloc, "log", "")?;
-    for text in [scenario, line, script.told.log.as_str()] {
-        wrong.push_str(text)?;
-        wrong.push('\n')?;
-    }
-    Ok(())
+    add_text(wrong, scenario)?;
+    add_text(wrong, line)?;
+    add_text(wrong, script.told.log.as_str())
 }
 
 /// Does what the lines of the scenario say, up to one that isn't so, which is told.
@@ -272,10 +272,16 @@ pub(crate) fn play<R: Threads + Wait + Sync>(
     scenario: &str,
     wrong: &mut String,
 ) -> Result<(), AllocError> {
-    for line in scenario.split('\n') {
+    let mut rest = scenario;
+    'lines: for _ in 0..scenario.len() {
+        let (line, more) = parted(rest, "\n");
         if !step(rt, alloc, script, line)? {
             return tell(alloc, script, scenario, line, wrong);
         }
+        if more.is_empty() {
+            break;
+        }
+        rest = more;
     }
     Ok(())
 }
