@@ -1,4 +1,5 @@
-//! Tests of the records of the logs, of spools and of arguments. There is nothing here but tests.
+//! Tests of the records of the logs, of spools and of arguments. There is nothing here but tests. Most cases are lines of text, which
+//! `trials.rt` hands to the functions that try them.
 //!
 //! - Records of the two logs (`queue_records`, `store_records`): each is read from its bytes and written as them, and other bytes are
 //!   no record. Each byte of each record is changed or cut off, or one is added: no record has a second spelling. The longest
@@ -25,5 +26,7 @@ mod record_store;
 mod record_store_texts;
 #[cfg(test)]
 mod spools;
+#[cfg(test)]
+mod trials;
 #[cfg(test)]
 mod wrong;

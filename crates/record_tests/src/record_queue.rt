@@ -1,8 +1,9 @@
 //! The records of the queue's log.
 ghost use Rattle.std.specs.Prelude.{IfOk};
-ghost use Rattle.queue_records.specs.record_spec.Queue.{IsCommand};
+ghost use Rattle.queue_records.specs.record_spec.Queue.{IsCommand, IsQueueRecord};
 
-use crate::wrong::{Wrong, holds};
+use crate::trials::try_all;
+use itoa::Buffer;
 use queue_records::fleet_rows::{Cause, Command, Kind};
 use queue_records::json_tree::Bytes;
 use queue_records::stamp_time::Moment;
@@ -11,75 +12,126 @@ use queue_records::{
     write_queue,
 };
 use std::alloc::{AllocError, Global};
+use std::fmt::Debug;
+use test_support::{Notes, count_of, gives, numbers_of, parts_of, says};
 
-fn command_words(alloc: Global, command: &Command) -> Result<String, AllocError> {
-    format!(in alloc;
-        "{:?} {} {} {}",
+/// Appends the word, and each number behind a blank.
+pub(crate) fn put(text: &mut String, word: &str, numbers: &[u64]) -> Result<(), AllocError> {
+    text.push_str(word)?;
+    for number in numbers {
+        text.push(' ')?;
+        text.push_str(Buffer::new().format(*number))?;
+    }
+    Ok(())
+}
+
+/// Appends the value behind a blank.
+pub(crate) fn put_value<T: Debug>(
+    alloc: Global,
+    text: &mut String,
+    value: &T,
+) -> Result<(), AllocError> {
+    let said = format!(in alloc; " {value:?}")?;
+    text.push_str(said.as_str())
+}
+
+fn put_command(alloc: Global, text: &mut String, command: &Command) -> Result<(), AllocError> {
+    let said = format!(in alloc;
+        " {:?} {} {} {}",
         command.kind,
         command.version,
         command.received.as_nanosecond(),
         command.payload.as_slice().len()
-    )
+    )?;
+    text.push_str(said.as_str())
 }
 
-// What a record says.
-fn words(alloc: Global, rec: &QueueRecord) -> Result<String, AllocError> {
+// Appends what a record of a command says.
+fn put_numbered(
+    alloc: Global,
+    text: &mut String,
+    word: &str,
+    numbers: &[u64],
+    command: &Command,
+) -> Result<(), AllocError> {
+    put(text, word, numbers)?;
+    put_command(alloc, text, command)
+}
+
+fn put_dead(
+    alloc: Global,
+    text: &mut String,
+    receipt: u64,
+    command: &Command,
+    cause: &Cause,
+) -> Result<(), AllocError> {
+    put_numbered(alloc, text, "Dead", &[receipt], command)?;
+    put_value(alloc, text, cause)
+}
+
+// Appends what a record says.
+fn put_record(alloc: Global, text: &mut String, rec: &QueueRecord) -> Result<(), AllocError> {
     match rec {
-        QueueRecord::Base(last) => format!(in alloc; "Base {last}"),
-        QueueRecord::Held(receipt, attempts, shared) => {
-            let command = command_words(alloc, shared.command())?;
-            format!(in alloc; "Held {receipt} {attempts} {command}")
-        }
+        QueueRecord::Base(last) => put(text, "Base", &[*last]),
+        QueueRecord::Held(receipt, attempts, shared) => put_numbered(
+            alloc,
+            text,
+            "Held",
+            &[*receipt, u64::from(*attempts)],
+            shared.command(),
+        ),
         QueueRecord::Dead(receipt, shared, cause) => {
-            let command = command_words(alloc, shared.command())?;
-            format!(in alloc; "Dead {receipt} {command} {cause:?}")
+            put_dead(alloc, text, *receipt, shared.command(), cause)
         }
         QueueRecord::Submit(receipt, shared) => {
-            let command = command_words(alloc, shared.command())?;
-            format!(in alloc; "Submit {receipt} {command}")
+            put_numbered(alloc, text, "Submit", &[*receipt], shared.command())
         }
-        QueueRecord::Done(receipt) => format!(in alloc; "Done {receipt}"),
-        QueueRecord::Superseded(receipt, by) => format!(in alloc; "Superseded {receipt} {by}"),
-        QueueRecord::Refused(receipt, refusal) => format!(in alloc;
-            "Refused {receipt} {refusal:?}"
-        ),
+        QueueRecord::Done(receipt) => put(text, "Done", &[*receipt]),
+        QueueRecord::Superseded(receipt, by) => put(text, "Superseded", &[*receipt, *by]),
+        QueueRecord::Refused(receipt, refusal) => {
+            put(text, "Refused", &[*receipt])?;
+            put_value(alloc, text, refusal)
+        }
         QueueRecord::Fail(receipt, before, after) => {
-            format!(in alloc; "Fail {receipt} {before} {after}")
+            put(text, "Fail", &[*receipt, *before, *after])
         }
     }
 }
 
-/// Whether the bytes are a record that says this.
-pub(crate) fn says(alloc: Global, bytes: &[u8], wanted: &str) -> Result<bool, AllocError> {
+/// What the record says that the bytes are; nothing where they are none.
+pub(crate) fn words(alloc: Global, bytes: &[u8]) -> Result<String, AllocError> {
+    let mut text = String::new(alloc);
     match read_queue(alloc, bytes)? {
-        None => Ok(false),
-        Some(rec) => Ok(words(alloc, &rec)?.as_str() == wanted),
-    }
-}
-
-/// Whether the bytes are a record, whose spelling they are.
-pub(crate) fn is_record(alloc: Global, bytes: &[u8]) -> Result<bool, Wrong> {
-    match read_queue(alloc, bytes)? {
-        None => Ok(false),
+        None => {}
         Some(rec) => {
-            let again = write_queue(alloc, &rec)?;
-            if again.as_slice() == bytes {
-                Ok(true)
-            } else {
-                Err(Wrong::OtherSpelling)
-            }
+            let said = put_record(alloc, &mut text, &rec);
+            drop(rec);
+            said?;
+        }
+    }
+    Ok(text)
+}
+
+/// How the record is spelt that the bytes are; none where they are no record.
+pub(crate) fn spelling(alloc: Global, bytes: &[u8]) -> Result<Option<Bytes>, AllocError> {
+    match read_queue(alloc, bytes)? {
+        None => Ok(None),
+        Some(rec) => {
+            let again = write_queue(alloc, &rec);
+            drop(rec);
+            Ok(Some(again?))
         }
     }
 }
 
-// A command of a kind, with a payload of so many bytes.
-fn command(alloc: Global, nanos: i128, len: usize) -> Result<Command, Wrong>
+// A command with a payload of so many bytes. The number is no literal here, since a proof would compute the payload.
+fn command(alloc: Global, nanos: i128, len: usize) -> Result<Command, AllocError>
     ensures { IfOk result (λ c. IsCommand c) }
 {
     let received = Moment::from_nanosecond(nanos);
     let payload = Bytes::from_vec(vec![in alloc; b'x'; len]?);
     if !received.has_stamp() || payload.as_slice().len() >= 4_294_967_296 {
-        return Err(Wrong::NoCommand);
+        return Err(AllocError);
     }
     Ok(Command {
         kind: Kind::Catalog,
@@ -90,77 +142,111 @@ fn command(alloc: Global, nanos: i128, len: usize) -> Result<Command, Wrong>
 }
 
 // One with a payload of 16 MiB.
-fn longest(alloc: Global) -> Result<Command, Wrong>
+fn longest(alloc: Global) -> Result<Command, AllocError>
     ensures { IfOk result (λ c. IsCommand c) }
 {
     command(alloc, 1_714_557_600_000_000_000, 16_777_216)
 }
 
-fn held(alloc: Global) -> Result<Bytes, Wrong> {
-    let command = longest(alloc)?;
-    Ok(held_bytes(alloc, 1, 15, &command)?)
-}
-
-fn dead(alloc: Global) -> Result<Bytes, Wrong> {
-    let command = longest(alloc)?;
-    Ok(dead_bytes(alloc, 1, &command, &Cause::Failures)?)
-}
-
-fn submitted(alloc: Global) -> Result<Bytes, Wrong> {
-    let command = longest(alloc)?;
-    Ok(submit_bytes(alloc, 1, &command)?)
-}
-
-// Whether the bytes are a record, and without the last one none.
-fn goes_both_ways(alloc: Global, bytes: &[u8]) -> Result<bool, Wrong> {
-    match bytes {
-        [front @ .., _last] => Ok(is_record(alloc, bytes)? && !is_record(alloc, front)?),
-        [] => Ok(false),
+// A record of it: a held command, a discarded one, or one that comes in.
+fn record_of(alloc: Global, word: &str, command: &Command) -> Result<Bytes, AllocError>
+    requires { IsCommand command.now }
+{
+    match word {
+        "held" => held_bytes(alloc, 1, 15, command),
+        "dead" => dead_bytes(alloc, 1, command, &Cause::Failures),
+        _ => submit_bytes(alloc, 1, command),
     }
 }
 
-#[test]
-fn the_longest_payload_goes_both_ways(rt: HostRuntime) -> Result<(), Wrong> {
-    let alloc = rt.alloc();
-    holds(goes_both_ways(alloc, held(alloc)?.as_slice())?, 0)?;
-    holds(goes_both_ways(alloc, dead(alloc)?.as_slice())?, 1)?;
-    let submit = submitted(alloc)?;
-    holds(goes_both_ways(alloc, submit.as_slice())?, 2)?;
-    holds(submit.as_slice().len() == 16_777_250, 3)
+fn longest_record(alloc: Global, word: &str) -> Result<Bytes, AllocError> {
+    let command = longest(alloc)?;
+    let bytes = record_of(alloc, word, &command);
+    drop(command);
+    bytes
 }
 
-static NUMBERS: [u64; 7] = [0, 1, 255, 256, 1 << 32, 1 << 63, u64::MAX];
+// Whether the bytes are a record, whose spelling they are.
+fn is_record(alloc: Global, bytes: &[u8]) -> Result<bool, AllocError> {
+    match spelling(alloc, bytes)? {
+        Some(again) => Ok(again.as_slice() == bytes),
+        None => Ok(false),
+    }
+}
+
+// How many bytes there are, whether they are a record, and whether they are none without the last one.
+fn told_of(alloc: Global, bytes: &[u8]) -> Result<(usize, bool, bool), AllocError> {
+    match bytes {
+        [front @ .., _last] => Ok((
+            bytes.len(),
+            is_record(alloc, bytes)?,
+            spelling(alloc, front)?.is_none(),
+        )),
+        [] => Ok((0, false, false)),
+    }
+}
+
+/// The same of a record of the longest payload.
+pub(crate) fn longest_told(alloc: Global, word: &str) -> Result<(usize, bool, bool), AllocError> {
+    let bytes = longest_record(alloc, word)?;
+    let told = told_of(alloc, bytes.as_slice());
+    drop(bytes);
+    told
+}
+
+/// The records of a command of 16 MiB.
+const LONGEST: &str = "held|(16777254, true, true)
+dead|(16777251, true, true)
+submitted|(16777250, true, true)";
+
+#[test]
+fn the_longest_payload_goes_both_ways(rt: HostRuntime) -> Result<(), AllocError> {
+    try_all(&rt, rt.alloc(), "longest", LONGEST)
+}
+
+// Whether the record is spelt so.
+fn is_written(alloc: Global, rec: QueueRecord, bytes: &[u8]) -> Result<bool, AllocError>
+    requires { IsQueueRecord rec }
+{
+    let written = write_queue(alloc, &rec);
+    drop(rec);
+    Ok(written?.as_slice() == bytes)
+}
 
 fn is_done(alloc: Global, number: u64) -> Result<bool, AllocError> {
-    let done = write_queue(alloc, &QueueRecord::Done(number))?;
-    Ok(done.as_slice() == done_bytes(number).as_slice())
+    is_written(alloc, QueueRecord::Done(number), &done_bytes(number))
 }
 
 fn is_fail(alloc: Global, before: u64, after: u64) -> Result<bool, AllocError> {
-    let fail = write_queue(alloc, &QueueRecord::Fail(1, before, after))?;
-    Ok(fail.as_slice() == fail_bytes(1, before, after).as_slice())
+    let bytes = fail_bytes(1, before, after);
+    is_written(alloc, QueueRecord::Fail(1, before, after), &bytes)
 }
 
-fn each_number(alloc: Global) -> Result<(), Wrong> {
-    for (at, number) in NUMBERS.iter().enumerate() {
-        holds(is_done(alloc, *number)?, at)?;
-        holds(is_fail(alloc, *number, *number / 2)?, at)?;
-    }
-    Ok(())
+/// Tries the records of a known length with this number.
+pub(crate) fn try_number(notes: &mut Notes, word: &str) {
+    let number = count_of(word);
+    let done = is_done(notes.alloc, number);
+    gives(notes, done, "true");
+    let fail = is_fail(notes.alloc, number, number / 2);
+    gives(notes, fail, "true");
 }
 
-fn is_done_so(number: u64, bytes: &[u8; 9]) -> bool {
-    &done_bytes(number) == bytes
+/// Numbers: 0, 1, 255, 256, and 2 to the power of 32 and of 63, and the greatest one.
+const NUMBERS: &str = "0\n1\n255\n256\n4294967296\n9223372036854775808\n18446744073709551615";
+
+/// Tries the bytes of a Done with the first number, and of a failure with the others.
+pub(crate) fn try_short(notes: &mut Notes, script: &str) {
+    let ([numbers, done, fail], _) = parts_of(script, "|");
+    let [ended, receipt, before, after] = numbers_of(numbers);
+    says(notes, done_bytes(ended), done);
+    says(notes, fail_bytes(receipt, before, after), fail);
 }
 
-fn is_fail_so(receipt: u64, before: u64, after: u64, bytes: &[u8; 25]) -> bool {
-    &fail_bytes(receipt, before, after) == bytes
-}
+const SHORT: &str =
+    "1 2 3 258|[4, 1, 0, 0, 0, 0, 0, 0, 0]|[7, 2, 0, 0, 0, 0, 0, 0, 0, 3, 0, 0, 0, 0, 0, 0, 0, 2, 1, 0, 0, 0, 0, 0, 0]";
 
 #[test]
-fn records_of_a_known_length_are_written_without_memory(rt: HostRuntime) -> Result<(), Wrong> {
-    each_number(rt.alloc())?;
-    holds(is_done_so(1, b"\x04\x01\0\0\0\0\0\0\0"), 7)?;
-    let fail = b"\x07\x02\0\0\0\0\0\0\0\x03\0\0\0\0\0\0\0\x02\x01\0\0\0\0\0\0";
-    holds(is_fail_so(2, 3, 258, fail), 8)
+fn records_of_a_known_length_are_written_without_memory(rt: HostRuntime) -> Result<(), AllocError> {
+    try_all(&rt, rt.alloc(), "number", NUMBERS)?;
+    try_all(&rt, rt.alloc(), "short", SHORT)
 }

@@ -1,107 +1,139 @@
 //! The records of the store's log.
-use crate::wrong::Wrong;
-use queue_records::fleet_rows::{Change, Kinds};
+use crate::record_queue::{put, put_value};
+use queue_records::fleet_rows::{Change, Kinds, Mark};
 use queue_records::json_tree::Bytes;
 use queue_records::stamp_time::Moment;
 use std::alloc::{AllocError, Global};
 use store_records::{StoreRecord, read_store, write_store};
 
-fn moment_words(alloc: Global, moment: &Option<Moment>) -> Result<String, AllocError> {
+fn nanosecond(moment: &Option<Moment>) -> Option<i128> {
     match moment {
-        None => format!(in alloc; "None"),
-        Some(moment) => format!(in alloc; "Some({})", moment.as_nanosecond()),
+        None => None,
+        Some(moment) => Some(moment.as_nanosecond()),
     }
 }
 
-fn change_words(alloc: Global, change: &Change) -> Result<String, AllocError> {
-    format!(in alloc; "{:?} {}", change.kind(), change.certname().as_str())
+fn put_moments(
+    alloc: Global,
+    text: &mut String,
+    first: &Option<Moment>,
+    second: &Option<Moment>,
+) -> Result<(), AllocError> {
+    put_value(alloc, text, &nanosecond(first))?;
+    put_value(alloc, text, &nanosecond(second))
 }
 
-fn kinds_words(alloc: Global, kinds: &Kinds) -> Result<String, AllocError> {
-    format!(in alloc; "{} {} {}", kinds.expire, kinds.purge, kinds.reports)
+// Appends the kind and the node of a change.
+fn put_change(alloc: Global, text: &mut String, change: &Change) -> Result<(), AllocError> {
+    put_value(alloc, text, &change.kind())?;
+    text.push(' ')?;
+    text.push_str(change.certname().as_str())
 }
 
-// What a record says.
-fn words(alloc: Global, rec: &StoreRecord) -> Result<String, AllocError> {
+fn put_base(
+    alloc: Global,
+    text: &mut String,
+    expire: &Option<Moment>,
+    retain: &Option<Moment>,
+    taken: &Option<u64>,
+) -> Result<(), AllocError> {
+    text.push_str("Base")?;
+    put_moments(alloc, text, expire, retain)?;
+    put_value(alloc, text, taken)
+}
+
+fn put_mark(alloc: Global, text: &mut String, mark: &Mark) -> Result<(), AllocError> {
+    text.push_str("Marks ")?;
+    text.push_str(mark.certname.as_str())?;
+    put_moments(alloc, text, &mark.active, &mark.deactivated)
+}
+
+fn put_sweep(
+    alloc: Global,
+    text: &mut String,
+    kinds: &Kinds,
+    moment: &Moment,
+) -> Result<(), AllocError> {
+    let said = format!(in alloc;
+        "Swept {} {} {} {}",
+        kinds.expire,
+        kinds.purge,
+        kinds.reports,
+        moment.as_nanosecond()
+    )?;
+    text.push_str(said.as_str())
+}
+
+fn put_applied(
+    alloc: Global,
+    text: &mut String,
+    receipt: u64,
+    change: &Change,
+) -> Result<(), AllocError> {
+    put(text, "Applied", &[receipt])?;
+    put_change(alloc, text, change)
+}
+
+fn put_received(
+    alloc: Global,
+    text: &mut String,
+    receipt: u64,
+    received: &Option<Moment>,
+    change: &Change,
+) -> Result<(), AllocError> {
+    put(text, "Received", &[receipt])?;
+    put_value(alloc, text, &nanosecond(received))?;
+    put_change(alloc, text, change)
+}
+
+// Appends what a record says.
+fn put_record(alloc: Global, text: &mut String, rec: &StoreRecord) -> Result<(), AllocError> {
     match rec {
         StoreRecord::Settings(node, purge, report) => {
-            format!(in alloc; "Settings {node} {purge} {report}")
+            let days = [u64::from(*node), u64::from(*purge), u64::from(*report)];
+            put(text, "Settings", &days)
         }
-        StoreRecord::Base(expire, retain, taken) => {
-            let expire = moment_words(alloc, expire)?;
-            let retain = moment_words(alloc, retain)?;
-            format!(in alloc; "Base {expire} {retain} {taken:?}")
-        }
-        StoreRecord::Marks(mark) => {
-            let active = moment_words(alloc, &mark.active)?;
-            let deactivated = moment_words(alloc, &mark.deactivated)?;
-            format!(in alloc; "Marks {} {active} {deactivated}", mark.certname.as_str())
-        }
-        StoreRecord::Applied(receipt, change) => {
-            let change = change_words(alloc, change)?;
-            format!(in alloc; "Applied {receipt} {change}")
-        }
-        StoreRecord::Swept(kinds, moment) => {
-            let kinds = kinds_words(alloc, kinds)?;
-            format!(in alloc; "Swept {kinds} {}", moment.as_nanosecond())
-        }
+        StoreRecord::Base(expire, retain, taken) => put_base(alloc, text, expire, retain, taken),
+        StoreRecord::Marks(mark) => put_mark(alloc, text, mark),
+        StoreRecord::Applied(receipt, change) => put_applied(alloc, text, *receipt, change),
+        StoreRecord::Swept(kinds, moment) => put_sweep(alloc, text, kinds, moment),
         StoreRecord::Received(receipt, received, change) => {
-            let received = moment_words(alloc, received)?;
-            let change = change_words(alloc, change)?;
-            format!(in alloc; "Received {receipt} {received} {change}")
+            put_received(alloc, text, *receipt, received, change)
         }
         StoreRecord::Limits(node, purge, report, count) => {
-            format!(in alloc; "Limits {node} {purge} {report} {count}")
+            let days = [u64::from(*node), u64::from(*purge), u64::from(*report)];
+            put(
+                text,
+                "Limits",
+                &[days[0], days[1], days[2], u64::from(*count)],
+            )
         }
     }
 }
 
-// The record that the bytes spell, and how it is spelt. A record is let go by a call, so that no proof walks through its variants at
-// each way out.
-fn read(alloc: Global, bytes: &[u8]) -> Result<Option<(StoreRecord, Bytes)>, AllocError> {
+/// What the record says that the bytes are; nothing where they are none.
+pub(crate) fn words(alloc: Global, bytes: &[u8]) -> Result<String, AllocError> {
+    let mut text = String::new(alloc);
+    match read_store(alloc, bytes)? {
+        None => {}
+        Some(rec) => {
+            let said = put_record(alloc, &mut text, &rec);
+            drop(rec);
+            said?;
+        }
+    }
+    Ok(text)
+}
+
+/// How the record is spelt that the bytes are; none where they are no record. A record is let go by a call, so that no proof walks
+/// through its variants at each way out.
+pub(crate) fn spelling(alloc: Global, bytes: &[u8]) -> Result<Option<Bytes>, AllocError> {
     match read_store(alloc, bytes)? {
         None => Ok(None),
-        Some(rec) => match write_store(alloc, &rec) {
-            Ok(again) => Ok(Some((rec, again))),
-            Err(fault) => {
-                drop(rec);
-                Err(fault)
-            }
-        },
-    }
-}
-
-// Whether the record says this.
-fn tells(alloc: Global, rec: &StoreRecord, wanted: &str) -> Result<bool, AllocError> {
-    Ok(words(alloc, rec)?.as_str() == wanted)
-}
-
-/// Whether the bytes are a record that says this.
-pub(crate) fn says(alloc: Global, bytes: &[u8], wanted: &str) -> Result<bool, AllocError> {
-    match read(alloc, bytes)? {
-        None => Ok(false),
-        Some((rec, again)) => {
-            drop(again);
-            let told = tells(alloc, &rec, wanted);
+        Some(rec) => {
+            let again = write_store(alloc, &rec);
             drop(rec);
-            told
-        }
-    }
-}
-
-/// Whether the bytes are a record, whose spelling they are.
-pub(crate) fn is_record(alloc: Global, bytes: &[u8]) -> Result<bool, Wrong> {
-    match read(alloc, bytes)? {
-        None => Ok(false),
-        Some((rec, again)) => {
-            drop(rec);
-            let same = again.as_slice() == bytes;
-            drop(again);
-            if same {
-                Ok(true)
-            } else {
-                Err(Wrong::OtherSpelling)
-            }
+            Ok(Some(again?))
         }
     }
 }
