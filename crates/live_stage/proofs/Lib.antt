@@ -6,6 +6,7 @@ pub mod Steps
 pub mod Holds
 pub mod Lookups
 pub mod Copies
+pub mod Firsts
 pub mod Shelving
 pub mod ShelfSteps
 pub mod Stepping

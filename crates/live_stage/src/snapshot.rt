@@ -69,8 +69,8 @@ impl Snapshot {
         apply_all(alloc, &mut self.tables, &mut self.behind)
     }
 
-    // Tables that lack nothing.
-    fn whole(alloc: Global, seen: u64, tables: Tables) -> Snapshot
+    /// Tables that lack nothing.
+    pub(crate) fn whole(alloc: Global, seen: u64, tables: Tables) -> Snapshot
         ensures { result ≡ snapshot seen tables [] }
     {
         Snapshot {

@@ -1,6 +1,7 @@
 use Rattle.std.proofs.Common.{◌∙◌, None, refl}
 use Rattle.core_ends.specs.core_course.Sight.{sight_of}
-use Rattle.live_stage.proofs.Holds.{works_not, works_join}
+use Rattle.live_stage.specs.WorkEnds.{next_at}
+use Rattle.live_stage.proofs.Holds.{works_not, works_join, turns_later, turns_work}
 use Rattle.live_stage.proofs.worker.work.Goals as goal
 
 pub turns-init : goal.turns-init
@@ -8,11 +9,18 @@ turns-init g c = (refl, refl, works_not (sight_of g.D.Disk g.K.Keeper) g.K.Keepe
 
 pub turns-preserved : goal.turns-preserved
 turns-preserved g c = (
-  c.goes_on.ensures.pass.0 ∙ c.turns.invariant.0,
-  c.goes_on.ensures.pass.1 ∙ c.turns.invariant.1,
-  works_join (sight_of g.D.Disk g.K.Keeper) g.K.Keeper.generation None None None c.args.pass.now c.turns.pass c.goes_on.new.pass c.turns.invariant.2 c.goes_on.ensures.works,
+  c.one_turn.ensures.pass.0 ∙ c.turns.invariant.0,
+  c.one_turn.ensures.pass.1 ∙ c.turns.invariant.1,
+  works_join (sight_of g.D.Disk g.K.Keeper) g.K.Keeper.generation None None None c.args.pass.now c.turns.pass c.one_turn.new.pass c.turns.invariant.2 c.in_default.ensures.ends,
 )
 
-pub returns-then-not-goes_on-clause-works : goal.returns-then-not-goes_on-clause-works
-returns-then-not-goes_on-clause-works g c =
-    works_join (sight_of g.D.Disk g.K.Keeper) g.K.Keeper.generation None None None c.args.pass.now c.turns.pass c.goes_on.new.pass c.turns.invariant.2 c.goes_on.ensures.works
+pub returns-in-Some-one_turn-clause-works : goal.returns-in-Some-one_turn-clause-works
+returns-in-Some-one_turn-clause-works g c =
+    let w = sight_of g.D.Disk g.K.Keeper in
+    let n = g.K.Keeper.generation in
+    works_join w n None None None c.args.pass.now c.turns.pass c.one_turn.new.pass c.turns.invariant.2
+    (turns_work w n (next_at c.in-Some-one_turn.stop) None c.turns.pass c.one_turn.new.pass c.in-Some-one_turn.ensures.ends)
+
+pub returns-in-Some-one_turn-clause-ends : goal.returns-in-Some-one_turn-clause-ends
+returns-in-Some-one_turn-clause-ends g c =
+    turns_later (sight_of g.D.Disk g.K.Keeper) g.K.Keeper.generation (next_at c.in-Some-one_turn.stop) None None c.args.pass.now c.turns.pass c.one_turn.new.pass c.turns.invariant.2 c.in-Some-one_turn.ensures.ends
