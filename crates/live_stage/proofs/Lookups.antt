@@ -71,6 +71,7 @@ module _ {D K : Type 0} (w : Sight D K) where
   -- the tables of the first events, of a stage that goes on
   first_later : (x y : StageView D K) (s : SnapshotView) → Follows w false x.start x.core → HasFirst w x s → y.start ≡ x.start → (more : History) → y.core.events.list ≡ more ++ x.core.events.list → HasFirst w y s
   first_later x y s follows first start more is = record {
+    lifetimes = first.lifetimes ∙ ap (λ (core : CoreState D K). core.tables.ttls) (sym start);
     seen = subst (λ (es : History). s.seen ≤ live_count es) (sym is) (live_longer more x.core.events.list s.seen first.seen);
     tables = λ h stood.
         let was : Stood w x.start h = subst (λ (core : CoreState D K). Stood w core h) start stood in
@@ -94,8 +95,9 @@ module _ {D K : Type 0} (w : Sight D K) where
 
   -- tables that stand for all that the core's tables stand for have the whole live trace
   pub whole_first : (stage : StageView D K) (n : ℕ) (tables : Table) → Follows w false stage.start stage.core → n ≡ live_count stage.core.events.list
-      → ((history : Trace) → Stands stage.core.tables history → Stands tables history) → HasFirst w stage (snapshot n tables [])
-  whole_first stage n tables follows all same = record {
+      → tables.ttls ≡ stage.core.tables.ttls → ((history : Trace) → Stands stage.core.tables history → Stands tables history) → HasFirst w stage (snapshot n tables [])
+  whole_first stage n tables follows all lifetimes same = record {
+    lifetimes = lifetimes ∙ follows.passed.opening.lifetimes;
     seen = subst (λ k. k ≤ live_count stage.core.events.list) (sym all) (omega arith);
     tables = λ h stood.
         let trace = trace_of (stage.core.events.list ++ h) in
@@ -107,6 +109,7 @@ module _ {D K : Type 0} (w : Sight D K) where
   pub brought_first : (stage : StageView D K) (s : SnapshotView) (steps all : List Step) (lack n : ℕ) → Follows w false stage.start stage.core → IsShelf w stage.start stage.core steps → HasFirst w stage s
       → n ≡ live_count stage.core.events.list → lack ≡ n - s.seen → lack ≤ length steps → all ≡ s.behind ++ drop (length steps - lack) steps → HasFirst w stage (snapshot n s.tables all)
   brought_first stage s steps all lack n follows shelf first n_is lack_is le all_is = record {
+    lifetimes = first.lifetimes;
     seen = subst (λ k. k ≤ live_count stage.core.events.list) (sym n_is) (omega arith);
     tables = λ h stood.
         let events = stage.core.events.list in
@@ -130,6 +133,19 @@ module _ {D K : Type 0} (w : Sight D K) where
   brought_all (Ok a) stage s now steps lack n from follows shelf first n_is lack_is le from_is made =
       subst (HasAll w stage) (sym made) (n_is, brought_first stage s steps (s.behind ++ drop from steps) lack n follows shelf first n_is lack_is le (ap (λ k. s.behind ++ drop k steps) from_is))
   brought_all (Err b) stage s now steps lack n from follows shelf first n_is lack_is le from_is made = tt
+
+  -- tables that were caught up have the same events
+  pub caught_up_lasts : (s now : SnapshotView) (seen : List (Staged D K)) → now.seen ≡ s.seen → now.tables.ttls ≡ s.tables.ttls → ((trace : Trace) → HasTrace s trace → HasTrace now trace)
+      → Lasts (HasFirstIn w s) seen → Lasts (HasFirstIn w now) seen
+  caught_up_lasts s now seen same lifetimes traces lasts final on stage is =
+      let had = lasts final on stage is in
+      record {
+        lifetimes = lifetimes ∙ had.lifetimes;
+        seen = subst (λ k. k ≤ live_count stage.core.events.list) (sym same) had.seen;
+        tables = λ h stood.
+            let events = stage.core.events.list in
+            subst (λ k. HasTrace now (trace_at h events k)) (sym same) (traces (trace_at h events s.seen) (had.tables h stood));
+      }
 
   -- ---- a hold with a look
 

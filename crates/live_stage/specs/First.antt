@@ -20,9 +20,10 @@ abbrev pub first : ℕ → StoreList → FirstView
 first live list = record { live = live; list = list }
 
 module _ {D K : Type 0} where
-  -- The list is the checkpoint of each history that the core's tables stand for.
+  -- The list has the core's lifetimes, and is the checkpoint of each history that the core's tables stand for.
   pub record AreFirstOf (core : CoreState D K) (f : FirstView) : Type 0 where
     pub live : f.live ≡ live_of core
+    pub lifetimes : f.list.ttls ≡ core.tables.ttls
     pub list : (history : Trace) → Stands core.tables history → f.list ≡ checkpoint core.tables.ttls history
 
   -- What was seen begins with a core as it came under the lock, and these are its tables.

@@ -76,8 +76,10 @@ abbrev pub HasTrace : SnapshotView → Trace → Type 0
 HasTrace s trace = IsTrace trace × ((base : Trace) × Stands s.tables base × LeadsTo base s.behind trace)
 
 module _ {D K : Type 0} (w : Sight D K) where
-  -- The tables have the first `seen` of the live trace, for each history that the core was opened with.
+  -- The tables have the core's lifetimes. They have the first `seen` of the live trace, for each history that the core was opened
+  -- with.
   pub record HasFirst (stage : StageView D K) (s : SnapshotView) : Type 0 where
+    pub lifetimes : s.tables.ttls ≡ stage.start.tables.ttls
     pub seen : s.seen ≤ live_of stage.core
     pub tables : (start : History) → Stood w stage.start start → HasTrace s (trace_at start stage.core.events.list s.seen)
 

@@ -259,6 +259,7 @@ pub(crate) fn apply_all(
     requires lawful { AllByRecursion IsLawfulStep steps.old.items }
     ensures lawful { AllByRecursion IsLawfulStep steps.new.items }
     ensures ok { OnOk result (steps.new.items ≡ []) }
+    ensures lifetimes { tables.new.ttls ≡ tables.old.ttls }
     ensures goes_on { GoesOn tables.old steps.old.items tables.new steps.new.items }
 {
     'applying: while !steps.is_empty() {
@@ -272,6 +273,7 @@ pub(crate) fn apply_all(
 fn apply_first(alloc: Global, tables: &mut Tables, steps: &VecDeque<Step>) -> Result<(), AllocError>
     requires { AllByRecursion IsLawfulStep steps.now.items }
     ensures ok { OnOk result (FirstMakes steps.now.items tables.old tables.new) }
+    ensures lifetimes { tables.new.ttls ≡ tables.old.ttls }
     ensures err { OnErr result (tables.new ≡ tables.old) }
 {
     match steps.front() {
@@ -283,6 +285,7 @@ fn apply_first(alloc: Global, tables: &mut Tables, steps: &VecDeque<Step>) -> Re
 fn apply_step(alloc: Global, tables: &mut Tables, step: &Step) -> Result<(), AllocError>
     requires { IsLawfulStep step.now }
     ensures ok { OnOk result (StepMakes step.now tables.old tables.new) }
+    ensures lifetimes { tables.new.ttls ≡ tables.old.ttls }
     ensures err { OnErr result (tables.new ≡ tables.old) }
 {
     match step {
@@ -306,6 +309,7 @@ fn apply_command(
     requires fit { IsFit command.now }
     requires change { HasChange command.now }
     ensures ok { OnOk result (StepMakes (Step.Applied receipt command.now) tables.old tables.new) }
+    ensures lifetimes { tables.new.ttls ≡ tables.old.ttls }
     ensures err { OnErr result (tables.new ≡ tables.old) }
 {
     let prepared = prepared_of(alloc, command)?;

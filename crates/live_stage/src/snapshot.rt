@@ -64,6 +64,7 @@ impl Snapshot {
     pub fn catch_up(&mut self, alloc: Global) -> Result<(), AllocError>
         ensures seen { self.new.seen ≡ self.old.seen }
         ensures ok { OnOk result (self.new.behind ≡ []) }
+        ensures lifetimes { self.new.tables.ttls ≡ self.old.tables.ttls }
         ensures trace { (trace : Trace) → HasTrace self.old trace → HasTrace self.new trace }
     {
         apply_all(alloc, &mut self.tables, &mut self.behind)
@@ -116,12 +117,13 @@ impl Snapshot {
     }
 }
 
-// Tables that stand for all that the core's tables stand for. All of it is copied.
+// Tables that stand for all that the core's tables stand for, with their lifetimes. All of it is copied.
 fn copied<D: Disk + Drop, K: Keeper + Drop>(
     alloc: Global,
     core: &Core<D, K>,
 ) -> Result<Tables, AllocError>
-    ensures { (history : Trace) → Stands core.now.tables history → IfOk result (λ tables. Stands tables history) }
+    ensures stands { (history : Trace) → Stands core.now.tables history → IfOk result (λ tables. Stands tables history) }
+    ensures lifetimes { IfOk result (λ tables. tables.ttls ≡ core.now.tables.ttls) }
 {
     core.is_lawful();
     let list = core.tables().snapshot()?;

@@ -1,4 +1,5 @@
 use Rattle.std.proofs.Common.{◌≡◌, ◌∙◌, sym, ap, subst, arith}
+use Rattle.core_ends.specs.fleet_rows.declared.store.StoreList.{StoreList}
 use Rattle.core_ends.specs.core_state.Seen.{events_of}
 use Rattle.core_ends.specs.core_state.compact_laws.Lawful.{IsWritable}
 use Rattle.core_ends.specs.fleet_tables.Stands.{Stands}
@@ -22,5 +23,6 @@ returns g c =
     let live : c.tally-live.result.applied ≡ live_of c.args.core.now = omega arith in
     subst (AreFirstOf c.args.core.now) (sym c.new.ensures) (record {
       live = live;
+      lifetimes = ap (λ (l : StoreList). l.ttls) c.in_ok-list.ensures.value ∙ ap (λ (t : Table). t.ttls) c.tables.ensures;
       list = λ history. subst (λ (t : Table). Stands t history → c.in_ok-list.list ≡ checkpoint t.ttls history) c.tables.ensures (c.in_ok-list.ensures.stands history);
     })

@@ -15,4 +15,4 @@ returns-clause-first g c =
     let begins = c.requires.begins in
     subst (λ (s : SnapshotView). Lasts (HasFirstIn w s) c.args.pass.now.seen) (sym c.whole.ensures)
     (begins_first w begins.0 (first c.self.inside.live c.self.inside.list) c.in_ok-tables.tables c.args.pass.now.seen
-    (subst (λ (f : FirstView). AreFirstOf begins.0 f) (sym c.self.view_is) begins.1) begins.2 c.in_ok-tables.ensures.stands)
+    (subst (λ (f : FirstView). AreFirstOf begins.0 f) (sym c.self.view_is) begins.1) begins.2 c.in_ok-tables.ensures.value c.in_ok-tables.ensures.stands)
