@@ -1,11 +1,14 @@
-//! Pairs of queries, one in PQL and one in the AST, whose trees differ only in the positions of names and operands.
+//! Queries in both languages, of which the one means the other: their trees are one but for the places of names and operands. Each is
+//! written as a text without places.
 use ast_reader::ast_tree::{
-    Clause, Field, Filter, Level, Literal, Name, Order, Paging, Query, Scalar, Selected,
-    function_name, shown_list,
+    Clause, Field, Filter, Level, Literal, Name, Op, Order, Paging, Query, Scalar, Selected,
+    Selection, function_name, shown_list,
 };
-use ast_reader::{AstFault, read_ast};
+use ast_reader::read_ast;
+use itoa::Buffer;
 use pql_reader::read_pql;
-use std::alloc::Global;
+use std::alloc::{AllocError, Global};
+use test_support::{add_words, parted};
 
 const BOTH: &str = r#"nodes{}|["from","nodes"]
 nodes[certname]{ resources { type = "Class" and title = "Ntp" } order by certname desc limit 1 offset 1 }|["from","nodes",["extract",["certname"],["subquery","resources",["and",["=","type","Class"],["=","title","Ntp"]]]],["order_by",[["certname","desc"]]],["limit",1],["offset",1]]
@@ -79,132 +82,207 @@ impl Part for Order {
     }
 }
 
-fn is_like<T: Part>(one: &T, other: &T) -> bool {
-    let (word, text) = one.told();
-    let (other_word, other_text) = other.told();
-    word == other_word && text == other_text
+// Appends a part. No text of a part has the byte that stands behind it.
+fn put<T: Part>(out: &mut Vec<u8>, part: &T) -> Result<(), AllocError> {
+    let (word, text) = part.told();
+    add_words(out, &[word, " "])?;
+    add_words(out, &[text, "\0"])
 }
 
-fn are_like<T: Part>(ones: &[T], others: &[T]) -> bool {
-    for (one, other) in ones.iter().zip(others) {
-        if !is_like(one, other) {
-            return false;
-        }
+// Appends parts, and where they end.
+fn put_all<T: Part>(out: &mut Vec<u8>, parts: &[T]) -> Result<(), AllocError> {
+    for part in parts {
+        put(out, part)?;
     }
-    ones.len() == others.len()
+    add_words(out, &["end\0"])
 }
 
-// Filters that hold no filter and no level.
-fn is_leaf_like(one: &Filter, other: &Filter) -> bool {
-    match (one, other) {
-        (Filter::Compare(op, field, value), Filter::Compare(other_op, other_field, other_value)) =>
-            { *op == *other_op && is_like(field, other_field) && is_like(value, other_value) }
-        (Filter::Matches(field, pattern), Filter::Matches(other_field, other_pattern)) => {
-            is_like(field, other_field) && pattern.text.as_str() == other_pattern.text.as_str()
-        }
-        (Filter::IsNull(field, is_null), Filter::IsNull(other_field, other_is_null)) => {
-            *is_null == *other_is_null && is_like(field, other_field)
-        }
-        (Filter::InList(fields, _, values), Filter::InList(other_fields, _, other_values)) => {
-            are_like(fields.as_slice(), other_fields.as_slice())
-                && are_like(values.as_slice(), other_values.as_slice())
-        }
-        _ => false,
+// Appends the word of a filter and the field that it looks at.
+fn put_tested(out: &mut Vec<u8>, word: &str, field: &Field) -> Result<(), AllocError> {
+    add_words(out, &[word, " "])?;
+    put(out, field)
+}
+
+fn op_word(op: Op) -> &'static str {
+    match op {
+        Op::Equal => "=",
+        Op::Less => "<",
+        Op::AtMost => "<=",
+        Op::More => ">",
+        Op::AtLeast => ">=",
     }
 }
 
-// Trees that nest deeper than `depth` count as different.
-#[cycle(like)]
-fn is_filter_like(one: &Filter, other: &Filter, depth: usize) -> bool {
+// Appends a filter that holds no filter and no level.
+fn put_leaf(out: &mut Vec<u8>, filter: &Filter) -> Result<(), AllocError> {
+    match filter {
+        Filter::Compare(op, field, value) => {
+            put_tested(out, op_word(*op), field)?;
+            put(out, value)
+        }
+        Filter::Matches(field, pattern) => {
+            put_tested(out, "~", field)?;
+            add_words(out, &[pattern.text.as_str(), "\0"])
+        }
+        Filter::IsNull(field, is_null) => {
+            put_tested(out, if *is_null { "null" } else { "not null" }, field)
+        }
+        Filter::InList(fields, _, values) => {
+            add_words(out, &["in list "])?;
+            put_all(out, fields.as_slice())?;
+            put_all(out, values.as_slice())
+        }
+        _ => Err(AllocError),
+    }
+}
+
+// Appends a filter. A tree that nests deeper than `depth` has no text.
+#[cycle(text)]
+fn put_filter(out: &mut Vec<u8>, filter: &Filter, depth: usize) -> Result<(), AllocError> {
     if depth == 0 {
-        return false;
+        return Err(AllocError);
     }
-    match (one, other) {
-        (Filter::InLevel(fields, _, level), Filter::InLevel(other_fields, _, other_level)) => {
-            are_like(fields.as_slice(), other_fields.as_slice())
-                && is_level_like(level, other_level, depth - 1)
+    match filter {
+        Filter::InLevel(fields, _, level) => {
+            add_words(out, &["in level "])?;
+            put_all(out, fields.as_slice())?;
+            put_level(out, level, depth - 1)
         }
-        (Filter::Subquery(name, clause), Filter::Subquery(other_name, other_clause)) => {
-            is_like(name, other_name) && is_clause_like(clause, other_clause, depth - 1)
+        Filter::Subquery(name, clause) => {
+            add_words(out, &["subquery "])?;
+            put(out, name)?;
+            put_clause(out, clause, depth - 1)
         }
-        (Filter::Not(operand), Filter::Not(other)) => {
-            is_filter_like(operand.filter(), other.filter(), depth - 1)
+        Filter::Not(operand) => {
+            add_words(out, &["not "])?;
+            put_filter(out, operand.filter(), depth - 1)
         }
-        (Filter::All(filters), Filter::All(others)) => {
-            are_filters_like(filters.as_slice(), others.as_slice(), depth - 1)
-        }
-        (Filter::Any(filters), Filter::Any(others)) => {
-            are_filters_like(filters.as_slice(), others.as_slice(), depth - 1)
-        }
-        _ => is_leaf_like(one, other),
+        Filter::All(filters) => put_filters(out, "and ", filters.as_slice(), depth - 1),
+        Filter::Any(filters) => put_filters(out, "or ", filters.as_slice(), depth - 1),
+        _ => put_leaf(out, filter),
     }
 }
 
-#[cycle(like)]
-fn are_filters_like(ones: &[Filter], others: &[Filter], depth: usize) -> bool {
+#[cycle(text)]
+fn put_filters(
+    out: &mut Vec<u8>,
+    word: &str,
+    filters: &[Filter],
+    depth: usize,
+) -> Result<(), AllocError> {
     if depth == 0 {
-        return false;
+        return Err(AllocError);
     }
-    for (one, other) in ones.iter().zip(others) {
-        if !is_filter_like(one, other, depth - 1) {
-            return false;
-        }
+    add_words(out, &[word])?;
+    for filter in filters {
+        put_filter(out, filter, depth - 1)?;
     }
-    ones.len() == others.len()
+    add_words(out, &["end\0"])
 }
 
-#[cycle(like)]
-fn is_clause_like(one: &Clause, other: &Clause, depth: usize) -> bool {
+#[cycle(text)]
+fn put_clause(out: &mut Vec<u8>, clause: &Clause, depth: usize) -> Result<(), AllocError> {
     if depth == 0 {
-        return false;
+        return Err(AllocError);
     }
-    match (one.filter(), other.filter()) {
-        (None, None) => true,
-        (Some(filter), Some(other)) => is_filter_like(filter, other, depth - 1),
-        _ => false,
+    match clause.filter() {
+        None => add_words(out, &["all\0"]),
+        Some(filter) => put_filter(out, filter, depth - 1),
     }
 }
 
-fn is_paging_like(one: &Paging, other: &Paging) -> bool {
-    are_like(one.order.as_slice(), other.order.as_slice())
-        && one.limit == other.limit
-        && one.offset == other.offset
-        && one.include_total == other.include_total
+// Appends a number, or that there is none.
+fn put_number(out: &mut Vec<u8>, number: Option<u64>) -> Result<(), AllocError> {
+    match number {
+        Some(number) => add_words(out, &[Buffer::new().format(number), "\0"]),
+        None => add_words(out, &["none\0"]),
+    }
 }
 
-#[cycle(like)]
-fn is_level_like(one: &Level, other: &Level, depth: usize) -> bool {
+fn put_paging(out: &mut Vec<u8>, paging: &Paging) -> Result<(), AllocError> {
+    put_all(out, paging.order.as_slice())?;
+    put_number(out, paging.limit)?;
+    put_number(out, paging.offset)?;
+    add_words(
+        out,
+        &[if paging.include_total {
+            "total\0"
+        } else {
+            "\0"
+        }],
+    )
+}
+
+fn put_shown(out: &mut Vec<u8>, shown: &Option<Selection>) -> Result<(), AllocError> {
+    add_words(out, &[if shown.is_some() { "shown " } else { "rows " }])?;
+    put_all(out, shown_list(shown))
+}
+
+#[cycle(text)]
+fn put_level(out: &mut Vec<u8>, level: &Level, depth: usize) -> Result<(), AllocError> {
     if depth == 0 {
-        return false;
+        return Err(AllocError);
     }
-    let (entity, shown, clause, group, paging) = one.parts();
-    let (other_entity, other_shown, other_clause, other_group, other_paging) = other.parts();
-    is_like(entity, other_entity)
-        && shown.is_some() == other_shown.is_some()
-        && are_like(shown_list(shown), shown_list(other_shown))
-        && is_clause_like(clause, other_clause, depth - 1)
-        && are_like(group.as_slice(), other_group.as_slice())
-        && is_paging_like(paging, other_paging)
+    let (entity, shown, clause, group, paging) = level.parts();
+    put(out, entity)?;
+    put_shown(out, shown)?;
+    put_clause(out, clause, depth - 1)?;
+    put_all(out, group.as_slice())?;
+    put_paging(out, paging)
 }
 
-fn is_spelt(query: &Query, ast: Result<Query, AstFault>) -> bool {
-    match ast {
-        Ok(spelt) => is_level_like(query.level(), spelt.level(), 100),
-        Err(_) => false,
-    }
+// The query as a text.
+fn text_of(alloc: Global, query: &Query) -> Result<Vec<u8>, AllocError> {
+    let mut out = Vec::new(alloc);
+    put_level(&mut out, query.level(), 100)?;
+    Ok(out)
 }
 
-fn mean_one(alloc: Global, pql: &str, ast: &str) -> bool {
+// The same, and lets the query go.
+fn text_in(alloc: Global, query: Query) -> Result<Vec<u8>, AllocError> {
+    let text = text_of(alloc, &query);
+    drop(query);
+    text
+}
+
+fn pql_text(alloc: Global, pql: &str) -> Result<Vec<u8>, AllocError> {
     match read_pql(alloc, pql.as_bytes()) {
-        Ok(query) => is_spelt(&query, read_ast(alloc, ast.as_bytes())),
-        Err(_) => false,
+        Ok(query) => text_in(alloc, query),
+        Err(_) => Err(AllocError),
     }
+}
+
+fn ast_text(alloc: Global, ast: &str) -> Result<Vec<u8>, AllocError> {
+    match read_ast(alloc, ast.as_bytes()) {
+        Ok(query) => text_in(alloc, query),
+        Err(_) => Err(AllocError),
+    }
+}
+
+fn mean_one(alloc: Global, line: &str) -> Result<bool, AllocError> {
+    let (pql, ast) = parted(line, "|");
+    let pql = pql_text(alloc, pql)?;
+    let ast = ast_text(alloc, ast)?;
+    Ok(pql.as_slice() == ast.as_slice())
+}
+
+// The first line whose queries differ, or of which one isn't read; none where there is no such line.
+fn differs(alloc: Global) -> Option<&'static str> {
+    let mut rest = BOTH;
+    'lines: for _ in 0..BOTH.len() {
+        let (line, more) = parted(rest, "\n");
+        if !mean_one(alloc, line).unwrap_or(false) {
+            return Some(line);
+        }
+        if more.is_empty() {
+            break;
+        }
+        rest = more;
+    }
+    None
 }
 
 #[test]
 fn a_query_means_the_ast_that_its_forms_name(rt: HostRuntime) {
-    for (place, line) in BOTH.split('\n').enumerate() {
-        let (pql, ast) = line.split_once('|').unwrap_or((line, ""));
-        assert!(rt; mean_one(rt.alloc(), pql, ast), "line {place}");
-    }
+    assert!(rt; differs(rt.alloc()).is_none());
 }

@@ -8,6 +8,7 @@ use command_decode::fleet_rows::{Change, Command, Entity, Kind, Kinds, Ttls};
 use command_decode::json_tree::Bytes;
 use command_decode::stamp_time::{Moment, read_stamp};
 use fleet_tables::Tables;
+use itoa::Buffer;
 use paging_text::{page, write_rows};
 use pattern_memory::{MemoryPatterns, Note};
 use pattern_regex::RegexPatterns;
@@ -19,6 +20,7 @@ use query_plain::{Picked, QueryFault, select_plain};
 use std::alloc::{AllocError, Global};
 use std::process::Abort;
 use std::str;
+use test_support::{add_words, count_of, parted};
 use ttl_sweeps::sweep;
 
 // The kind of a command, and the version that is taken.
@@ -68,6 +70,48 @@ fn text_of(alloc: Global, answer: Result<Bytes, AnswerFault>) -> Result<Bytes, A
     }
 }
 
+// The texts of answers: of a whole query in either language, of one in the AST, of one that was read, and of what is asked of the rows of an
+// entity. No function above needs what the calls ensure.
+fn told_text(alloc: Global, tables: &Tables, text: &[u8]) -> Result<Bytes, AllocError> {
+    let mut patterns = RegexPatterns::new(alloc);
+    let answer = answer_text(alloc, tables, text, &mut patterns);
+    drop(patterns);
+    text_of(alloc, answer)
+}
+
+fn told_ast(alloc: Global, tables: &Tables, text: &[u8]) -> Result<Bytes, AllocError> {
+    let mut patterns = RegexPatterns::new(alloc);
+    let answer = answer_ast(alloc, tables, text, &mut patterns);
+    drop(patterns);
+    text_of(alloc, answer)
+}
+
+fn told_query(alloc: Global, tables: &Tables, query: Query) -> Result<Bytes, AllocError> {
+    let mut patterns = RegexPatterns::new(alloc);
+    let answer = answer_query(alloc, tables, &query, &mut patterns);
+    drop(patterns);
+    drop(query);
+    text_of(alloc, answer)
+}
+
+fn told_filter(
+    alloc: Global,
+    tables: &Tables,
+    entity: Entity,
+    text: &[u8],
+) -> Result<Bytes, AllocError> {
+    let mut patterns = RegexPatterns::new(alloc);
+    let answer = answer_filter(alloc, tables, entity, text, &mut patterns);
+    drop(patterns);
+    text_of(alloc, answer)
+}
+
+fn copied(alloc: Global, query: Query) -> Result<Query, AllocError> {
+    let copy = query.copy(alloc);
+    drop(query);
+    copy
+}
+
 // What is asked of the rows of an entity: a copy of the query is answered, and a text that is none is refused.
 fn route_answer(
     alloc: Global,
@@ -75,58 +119,60 @@ fn route_answer(
     entity: Entity,
     text: &[u8],
 ) -> Result<Bytes, AllocError> {
-    let mut patterns = RegexPatterns::new(alloc);
     match read_filter(alloc, entity, text) {
-        Ok(query) => {
-            let copied = query.copy(alloc)?;
-            text_of(alloc, answer_query(alloc, tables, &copied, &mut patterns))
-        }
-        Err(_) => text_of(
-            alloc,
-            answer_filter(alloc, tables, entity, text, &mut patterns),
-        ),
+        Ok(query) => told_query(alloc, tables, copied(alloc, query)?),
+        Err(_) => told_filter(alloc, tables, entity, text),
     }
-}
-
-fn put_words(out: &mut Vec<u8>, words: &[&str]) -> Result<(), AllocError> {
-    for word in words {
-        out.extend_from_slice(word.as_bytes())?;
-    }
-    Ok(())
 }
 
 fn put_note(out: &mut Vec<u8>, note: &Note) -> Result<(), AllocError> {
     match note {
-        Note::Read(pattern, true) => put_words(out, &["refused ", pattern.as_str(), ";"]),
-        Note::Read(pattern, false) => put_words(out, &["read ", pattern.as_str(), ";"]),
+        Note::Read(pattern, true) => add_words(out, &["refused ", pattern.as_str(), ";"]),
+        Note::Read(pattern, false) => add_words(out, &["read ", pattern.as_str(), ";"]),
         Note::Tried(pattern, text) => {
-            put_words(out, &["tried ", pattern.as_str(), " ", text.as_str(), ";"])
+            add_words(out, &["tried ", pattern.as_str(), " ", text.as_str(), ";"])
         }
     }
+}
+
+// What a reader of patterns was asked, in order.
+fn notes_of(alloc: Global, patterns: &MemoryPatterns) -> Result<Vec<u8>, AllocError> {
+    let mut out = Vec::new(alloc);
+    for note in patterns.notes() {
+        put_note(&mut out, note)?;
+    }
+    if patterns.lost() > 0 {
+        add_words(&mut out, &["no memory"])?;
+    }
+    Ok(out)
+}
+
+// Answers a query with a reader of patterns that notes what it is asked.
+fn answer_noted(alloc: Global, tables: &Tables, text: &[u8], patterns: &mut MemoryPatterns) {
+    drop(answer_text(alloc, tables, text, patterns));
 }
 
 // What a reader of patterns is asked for the answer to a query, in order.
 fn course(alloc: Global, tables: &Tables, text: &[u8]) -> Result<Bytes, AllocError> {
     let mut patterns = MemoryPatterns::new(alloc);
-    let _ = answer_text(alloc, tables, text, &mut patterns);
-    if patterns.lost() > 0 {
-        return Bytes::from_slice(alloc, b"no memory");
-    }
-    let mut out = Vec::new(alloc);
-    for note in patterns.notes() {
-        put_note(&mut out, note)?;
-    }
-    Ok(Bytes::from_vec(out))
+    answer_noted(alloc, tables, text, &mut patterns);
+    let notes = notes_of(alloc, &patterns);
+    drop(patterns);
+    Ok(Bytes::from_vec(notes?))
+}
+
+fn paging_in(alloc: Global, query: &Query) -> Option<Paging> {
+    let (_, _, _, _, paging) = query.level().parts();
+    paging.copy(alloc).ok()
 }
 
 // The paging of a query, with the number of all rows.
 fn paging_of(alloc: Global, text: &str) -> Option<Paging> {
-    let Ok(query) = read_ast(alloc, text.as_bytes()) else {
-        return None;
-    };
-    let (_, _, _, _, paging) = query.level().parts();
-    match paging.copy(alloc) {
-        Ok(mut paging) => {
+    match read_ast(alloc, text.as_bytes()) {
+        Ok(query) => {
+            let paging = paging_in(alloc, &query);
+            drop(query);
+            let mut paging = paging?;
             paging.include_total = true;
             Some(paging)
         }
@@ -134,9 +180,21 @@ fn paging_of(alloc: Global, text: &str) -> Option<Paging> {
     }
 }
 
+// What is picked where all rows are read.
+fn picked_by(alloc: Global, tables: &Tables, query: &Query) -> Result<Picked, QueryFault> {
+    let mut patterns = RegexPatterns::new(alloc);
+    let picked = select_plain(alloc, tables, query, &mut patterns);
+    drop(patterns);
+    picked
+}
+
 fn picked(alloc: Global, tables: &Tables, text: &str) -> Option<Picked> {
     match read_ast(alloc, text.as_bytes()) {
-        Ok(query) => select_plain(alloc, tables, &query, &mut RegexPatterns::new(alloc)).ok(),
+        Ok(query) => {
+            let picked = picked_by(alloc, tables, &query);
+            drop(query);
+            picked.ok()
+        }
         Err(_) => None,
     }
 }
@@ -149,10 +207,16 @@ fn query_in(alloc: Global, text: &[u8]) -> Option<Query> {
     }
 }
 
+fn rows_text(alloc: Global, picked: Picked) -> Result<Bytes, AllocError> {
+    let text = write_rows(alloc, &picked.rows);
+    drop(picked);
+    text
+}
+
 // What a query is answered where all rows are read: the text of its rows, or that of the refusal.
 fn plain_text(alloc: Global, tables: &Tables, query: &Query) -> Result<Bytes, AllocError> {
-    match select_plain(alloc, tables, query, &mut RegexPatterns::new(alloc)) {
-        Ok(picked) => write_rows(alloc, &picked.rows),
+    match picked_by(alloc, tables, query) {
+        Ok(picked) => rows_text(alloc, picked),
         Err(QueryFault::BadPattern(path)) => QueryRefusal::BadPattern(path).text(alloc),
         Err(QueryFault::SumTooLarge(path)) => QueryRefusal::SumTooLarge(path).text(alloc),
         Err(QueryFault::Memory) => Bytes::from_slice(alloc, b"no memory"),
@@ -167,7 +231,11 @@ fn is_plain(
     told: &[u8],
 ) -> Result<bool, AllocError> {
     match query {
-        Some(query) => Ok(plain_text(alloc, tables, &query)?.as_slice() == told),
+        Some(query) => {
+            let text = plain_text(alloc, tables, &query);
+            drop(query);
+            Ok(text?.as_slice() == told)
+        }
         None => Ok(true),
     }
 }
@@ -175,33 +243,56 @@ fn is_plain(
 // The number of all rows, and those of the page.
 fn page_text(alloc: Global, picked: Picked, paging: &Paging) -> Result<Bytes, AllocError> {
     let page = page(picked.rows, paging)?;
+    let total = page.total;
+    let rows = write_rows(alloc, &page.rows);
+    drop(page);
+    let rows = rows?;
     let mut out = Vec::new(alloc);
-    out.extend_from_slice(format!(in alloc; "{} ", page.total)?.as_bytes())?;
-    out.extend_from_slice(write_rows(alloc, &page.rows)?.as_slice())?;
+    add_words(&mut out, &[Buffer::new().format(total), " "])?;
+    out.extend_from_slice(rows.as_slice())?;
     Ok(Bytes::from_vec(out))
+}
+
+// The rows by this paging.
+fn paged_text(alloc: Global, picked: Option<Picked>, paging: Paging) -> Result<Bytes, AllocError> {
+    let text = match picked {
+        Some(picked) => page_text(alloc, picked, &paging),
+        None => Bytes::from_slice(alloc, b"no rows"),
+    };
+    drop(paging);
+    text
 }
 
 // The rows of a query by the paging of another one, which stands behind a bar.
 fn page_answer(alloc: Global, tables: &Tables, text: &str) -> Result<Bytes, AllocError> {
-    let (query, paging) = text.split_once('|').unwrap_or((text, ""));
-    let Some(paging) = paging_of(alloc, paging) else {
-        return Bytes::from_slice(alloc, b"no paging");
-    };
-    match picked(alloc, tables, query) {
-        Some(picked) => page_text(alloc, picked, &paging),
-        None => Bytes::from_slice(alloc, b"no rows"),
+    let (query, paging) = parted(text, "|");
+    match paging_of(alloc, paging) {
+        Some(paging) => paged_text(alloc, picked(alloc, tables, query), paging),
+        None => Bytes::from_slice(alloc, b"no paging"),
     }
+}
+
+fn add_often(out: &mut Vec<u8>, part: &str, times: u64) -> Result<(), AllocError> {
+    if !part.is_empty() {
+        for _ in 0..times {
+            add_words(out, &[part])?;
+        }
+    }
+    Ok(())
 }
 
 // The parts between bars, each second one so many times as the number in front says.
 fn repeated(alloc: Global, text: &str) -> Result<Bytes, AllocError> {
-    let (times, parts) = text.split_once(' ').unwrap_or((text, ""));
-    let times = times.parse::<u32>().unwrap_or(0);
+    let (times, parts) = parted(text, " ");
+    let times = count_of(times);
     let mut out = Vec::new(alloc);
-    for (place, part) in parts.split('|').enumerate() {
-        for _ in 0..(if place % 2 == 0 { 1 } else { times }) {
-            out.extend_from_slice(part.as_bytes())?;
-        }
+    let mut rest = parts;
+    'parts: for _ in 0..parts.len() {
+        let (once, more) = parted(rest, "|");
+        let (often, more) = parted(more, "|");
+        add_words(&mut out, &[once])?;
+        add_often(&mut out, often, times)?;
+        rest = more;
     }
     Ok(Bytes::from_vec(out))
 }
@@ -234,8 +325,13 @@ impl Fleet {
         Ok(true)
     }
 
-    // Applies a command that isn't refused.
-    fn apply(&mut self, kind: Kind, version: u32, payload: &str) -> Result<bool, AllocError> {
+    /// Applies a command that isn't refused.
+    pub(crate) fn apply(
+        &mut self,
+        kind: Kind,
+        version: u32,
+        payload: &[u8],
+    ) -> Result<bool, AllocError> {
         if payload.len() >= 4_294_967_296 {
             return Ok(false);
         }
@@ -243,7 +339,7 @@ impl Fleet {
             kind,
             version,
             received: Moment::from_nanosecond(0),
-            payload: Bytes::from_slice(self.alloc, payload.as_bytes())?,
+            payload: Bytes::from_slice(self.alloc, payload)?,
         };
         match decode(self.alloc, &command) {
             Ok(change) => self.put(change),
@@ -258,16 +354,12 @@ impl Fleet {
 
     /// Asks a whole query in either language.
     pub(crate) fn ask(&mut self, text: &[u8]) -> Result<bool, AllocError> {
-        let mut patterns = RegexPatterns::new(self.alloc);
-        let answer = answer_text(self.alloc, &self.tables, text, &mut patterns);
-        self.told = text_of(self.alloc, answer)?;
+        self.told = told_text(self.alloc, &self.tables, text)?;
         self.is_told_plainly(query_in(self.alloc, text))
     }
 
     fn ask_ast(&mut self, text: &[u8]) -> Result<bool, AllocError> {
-        let mut patterns = RegexPatterns::new(self.alloc);
-        let answer = answer_ast(self.alloc, &self.tables, text, &mut patterns);
-        self.told = text_of(self.alloc, answer)?;
+        self.told = told_ast(self.alloc, &self.tables, text)?;
         self.is_told_plainly(read_ast(self.alloc, text).ok())
     }
 
@@ -279,7 +371,7 @@ impl Fleet {
     // Asks the rows of an entity, or applies a command.
     fn take(&mut self, word: &str, text: &str) -> Result<bool, AllocError> {
         if let Some((kind, version)) = kind_of(word) {
-            return self.apply(kind, version, text);
+            return self.apply(kind, version, text.as_bytes());
         }
         match entity_of(word) {
             Some(entity) => self.ask_route(entity, text.as_bytes()),
@@ -288,12 +380,12 @@ impl Fleet {
     }
 
     /// The tables told this last.
-    pub(crate) fn has_told(&self, text: &str) -> bool {
-        self.told.as_slice() == text.as_bytes()
+    pub(crate) fn has_told(&self, text: &[u8]) -> bool {
+        self.told.as_slice() == text
     }
 
     // Whether the line's command was taken, or what it says was told.
-    pub(crate) fn step(&mut self, word: &str, text: &str) -> Result<bool, AllocError> {
+    fn step(&mut self, word: &str, text: &str) -> Result<bool, AllocError> {
         match word {
             "fleet" => self.tables = Tables::new(self.alloc, Ttls::default_lifetimes()),
             "expire" => return Ok(expire(&mut self.tables, text)),
@@ -302,7 +394,7 @@ impl Fleet {
             "repeat" => return self.ask(repeated(self.alloc, text)?.as_slice()),
             "course" => self.told = course(self.alloc, &self.tables, text.as_bytes())?,
             "page" => self.told = page_answer(self.alloc, &self.tables, text)?,
-            "told" => return Ok(self.has_told(text)),
+            "told" => return Ok(self.has_told(text.as_bytes())),
             "tells" => {
                 return Ok(self.told.as_slice() == repeated(self.alloc, text)?.as_slice());
             }
@@ -310,6 +402,48 @@ impl Fleet {
         }
         Ok(true)
     }
+}
+
+/// Plays the lines, up to one that isn't so; none where each is.
+pub(crate) fn wrong_line<'a>(
+    fleet: &mut Fleet,
+    lines: &'a str,
+) -> Result<Option<&'a str>, AllocError> {
+    let mut rest = lines;
+    'lines: for _ in 0..lines.len() {
+        let (line, more) = parted(rest, "\n");
+        let (word, text) = parted(line, " ");
+        if !fleet.step(word, text)? {
+            return Ok(Some(line));
+        }
+        if more.is_empty() {
+            break;
+        }
+        rest = more;
+    }
+    Ok(None)
+}
+
+// A line that isn't so, and what was told; nothing where there is no such line.
+fn said_of(
+    alloc: Global,
+    wrong: Result<Option<&str>, AllocError>,
+    told: &[u8],
+) -> Result<String, AllocError> {
+    let told = str::from_utf8(told).unwrap_or("no text");
+    match wrong? {
+        Some(line) => format!(in alloc; "{line}: {told}"),
+        None => Ok(String::new(alloc)),
+    }
+}
+
+// Plays the lines over tables of no node. The first one that isn't so, and what was told.
+fn wrong_text(alloc: Global, lines: &str) -> Result<String, AllocError> {
+    let mut fleet = Fleet::new(alloc);
+    let wrong = wrong_line(&mut fleet, lines);
+    let said = said_of(alloc, wrong, fleet.told.as_slice());
+    drop(fleet);
+    said
 }
 
 /// Plays the lines, each a word and its text; the first that isn't so ends the test.
@@ -320,12 +454,7 @@ impl Fleet {
 /// told: the rows, or the refusal. `course` asks, and is told what a reader of patterns was asked. `page` asks a query by the
 /// paging of another one. `repeat` asks the parts between bars, each second one so many times; `tells` repeats what is told so.
 pub(crate) fn play(rt: &impl Abort, alloc: Global, lines: &str) -> Result<(), AllocError> {
-    let mut fleet = Fleet::new(alloc);
-    for (place, line) in lines.split('\n').enumerate() {
-        let (word, text) = line.split_once(' ').unwrap_or((line, ""));
-        let is_so = fleet.step(word, text)?;
-        let told = str::from_utf8(fleet.told.as_slice()).unwrap_or("no text");
-        assert!(rt; is_so, "line {place}: {told}");
-    }
+    let wrong = wrong_text(alloc, lines)?;
+    assert!(rt; wrong.is_empty(), "{wrong}");
     Ok(())
 }

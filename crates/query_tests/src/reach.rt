@@ -1,7 +1,10 @@
 //! Queries that read few rows are answered as those that read all rows: each two of many conjuncts, over facts, resources and nodes.
 //! Patterns are tried on the rows in reach alone.
-use crate::play::Fleet;
+use crate::play::{Fleet, wrong_line};
+use command_decode::fleet_rows::Kind;
+use itoa::Buffer;
 use std::alloc::{AllocError, Global};
+use test_support::{add_words, parted};
 
 const COMMANDS: &str =
     r#"facts {"certname":"a","environment":"production","values":{"k":"v","kernel":"Linux","n":1},"producer_timestamp":"2024-05-01T10:00:00Z"}
@@ -54,11 +57,6 @@ const OF_RESOURCES: &str = r#"["=","type","Class"]
 ["and",["=","type","Class"],["=","title","Ntp"],["=","title","Apache"]]
 ["not",["=","type","Class"]]"#;
 
-fn apply(fleet: &mut Fleet, line: &str) -> Result<bool, AllocError> {
-    let (word, text) = line.split_once(' ').unwrap_or((line, ""));
-    fleet.step(word, text)
-}
-
 // Whether both ways of reading are told the same of two conjuncts.
 fn ask_both(
     alloc: Global,
@@ -67,89 +65,157 @@ fn ask_both(
     one: &str,
     other: &str,
 ) -> Result<bool, AllocError> {
-    let query = format!(in alloc; "[\"from\",\"{entity}\",[\"and\",{one},{other}]]")?;
-    fleet.ask(query.as_bytes())
+    let mut query = Vec::new(alloc);
+    let head = [
+        "[\"from\",\"",
+        entity,
+        "\",[\"and\",",
+        one,
+        ",",
+        other,
+        "]]",
+    ];
+    add_words(&mut query, &head)?;
+    fleet.ask(query.as_slice())
 }
 
-fn ask_each(alloc: Global, fleet: &mut Fleet, entity: &str, own: &str) -> Result<bool, AllocError> {
+// The same of one conjunct and each of the others, and the other way round.
+fn ask_one(
+    alloc: Global,
+    fleet: &mut Fleet,
+    entity: &str,
+    one: &str,
+    others: &str,
+) -> Result<bool, AllocError> {
     let mut all = true;
-    for one in CONJUNCTS.split('\n') {
-        for other in CONJUNCTS.split('\n') {
-            all &= ask_both(alloc, fleet, entity, one, other)?;
+    let mut rest = others;
+    'others: for _ in 0..others.len() {
+        let (other, more) = parted(rest, "\n");
+        all &= ask_both(alloc, fleet, entity, one, other)?;
+        all &= ask_both(alloc, fleet, entity, other, one)?;
+        if more.is_empty() {
+            break;
         }
-        for other in own.split('\n') {
-            all &= ask_both(alloc, fleet, entity, one, other)?;
-            all &= ask_both(alloc, fleet, entity, other, one)?;
-        }
+        rest = more;
     }
     Ok(all)
 }
 
-fn ask_all(alloc: Global) -> Result<bool, AllocError> {
-    let mut fleet = Fleet::new(alloc);
-    for line in COMMANDS.split('\n') {
-        if !apply(&mut fleet, line)? {
-            return Ok(false);
+// The same of each two of the conjuncts, and of each of them and one of those that the entity has for itself.
+fn ask_each(alloc: Global, fleet: &mut Fleet, entity: &str, own: &str) -> Result<bool, AllocError> {
+    let mut all = true;
+    let mut rest = CONJUNCTS;
+    'conjuncts: for _ in 0..CONJUNCTS.len() {
+        let (one, more) = parted(rest, "\n");
+        all &= ask_one(alloc, fleet, entity, one, rest)?;
+        all &= ask_one(alloc, fleet, entity, one, own)?;
+        if more.is_empty() {
+            break;
         }
+        rest = more;
     }
-    Ok(
-        ask_each(alloc, &mut fleet, "facts", OF_FACTS)?
-            & ask_each(alloc, &mut fleet, "resources", OF_RESOURCES)?
-            & ask_each(alloc, &mut fleet, "nodes", "[\"null?\",\"expired\",true]")?,
-    )
+    Ok(all)
+}
+
+fn ask_all(alloc: Global, fleet: &mut Fleet) -> Result<bool, AllocError> {
+    let facts = ask_each(alloc, fleet, "facts", OF_FACTS)?;
+    let resources = ask_each(alloc, fleet, "resources", OF_RESOURCES)?;
+    let nodes = ask_each(alloc, fleet, "nodes", "[\"null?\",\"expired\",true]")?;
+    Ok(facts && resources && nodes)
+}
+
+fn is_told_so(alloc: Global, fleet: &mut Fleet) -> Result<bool, AllocError> {
+    let applied = wrong_line(fleet, COMMANDS)?.is_none();
+    Ok(applied && ask_all(alloc, fleet)?)
+}
+
+fn are_told_the_same(alloc: Global) -> Result<bool, AllocError> {
+    let mut fleet = Fleet::new(alloc);
+    let so = is_told_so(alloc, &mut fleet);
+    drop(fleet);
+    so
 }
 
 #[test]
 fn reading_few_rows_tells_what_reading_all_rows_tells(rt: HostRuntime) -> Result<(), AllocError> {
-    assert!(rt; ask_all(rt.alloc())?);
+    assert!(rt; are_told_the_same(rt.alloc())?);
     Ok(())
 }
 
-// A hundred texts with commas between them. A number stands between the head and the tail of each.
-fn hundred(alloc: Global, head: &str, tail: &str) -> Result<String, AllocError> {
-    let mut text = String::new(alloc);
+// Appends a hundred texts with commas between them. A number stands between the head and the tail of each.
+fn add_hundred(out: &mut Vec<u8>, head: &str, tail: &str) -> Result<(), AllocError> {
     for number in 100..200_u32 {
         let comma = if number == 100 { "" } else { "," };
-        text.push_str(format!(in alloc; "{comma}{head}{number}{tail}")?.as_str())?;
+        add_words(out, &[comma, head, Buffer::new().format(number), tail])?;
     }
-    Ok(text)
+    Ok(())
 }
 
-// A node with a hundred facts, each with the same value.
-fn add_node(alloc: Global, fleet: &mut Fleet, certname: &str) -> Result<bool, AllocError> {
-    let values = hundred(alloc, "\"fact", "\":\"v\"")?;
-    let payload = format!(in alloc;
-        "{{\"certname\":\"{certname}\",\"environment\":\"production\",\"values\":{{{values}}},\"producer_timestamp\":\"2024-05-01T10:00:00Z\"}}"
+// Facts of a node, a hundred with the same value.
+fn payload_of(alloc: Global, node: u32) -> Result<Vec<u8>, AllocError> {
+    let mut out = Vec::new(alloc);
+    add_words(
+        &mut out,
+        &[
+            "{\"certname\":\"node",
+            Buffer::new().format(node),
+            "\",\"environment\":\"production\",\"values\":{",
+        ],
     )?;
-    fleet.step("facts", payload.as_str())
+    add_hundred(&mut out, "\"fact", "\":\"v\"")?;
+    add_words(
+        &mut out,
+        &["},\"producer_timestamp\":\"2024-05-01T10:00:00Z\"}"],
+    )?;
+    Ok(out)
 }
 
-const OF_ONE_NODE: &str = r#"["from","facts",["and",["~","value","v"],["=","certname","a"]]]"#;
+fn add_nodes(alloc: Global, fleet: &mut Fleet) -> Result<bool, AllocError> {
+    let mut all = true;
+    for node in 0..50_u32 {
+        let payload = payload_of(alloc, node)?;
+        all &= fleet.apply(Kind::Facts, 5, payload.as_slice())?;
+    }
+    Ok(all)
+}
 
-// The rows of the node, and how often its query tries a text.
-fn are_told(alloc: Global, fleet: &mut Fleet) -> Result<bool, AllocError> {
-    let rows = hundred(
-        alloc,
-        r#"{"certname":"a","environment":"production","name":"fact"#,
+// The rows of one node.
+fn rows_of_one(alloc: Global) -> Result<Vec<u8>, AllocError> {
+    let mut out = Vec::new(alloc);
+    add_words(&mut out, &["["])?;
+    add_hundred(
+        &mut out,
+        r#"{"certname":"node7","environment":"production","name":"fact"#,
         r#"","value":"v"}"#,
     )?;
-    let told = format!(in alloc; "[{rows}]")?;
-    let so = fleet.ask(OF_ONE_NODE.as_bytes())? && fleet.has_told(told.as_str());
-    Ok(so && fleet.step("course", OF_ONE_NODE)? && fleet.step("tells", "100 read v;|tried v v;")?)
+    add_words(&mut out, &["]"])?;
+    Ok(out)
 }
 
-fn tried_on_one_node(alloc: Global) -> Result<bool, AllocError> {
+// What the nodes are asked, and how often the query tries a text.
+const OF_ONE_NODE: &str = r#"ask ["from","facts",["and",["~","value","v"],["=","certname","node7"]]]
+course ["from","facts",["and",["~","value","v"],["=","certname","node7"]]]
+tells 100 read v;|tried v v;"#;
+
+fn is_tried_in(alloc: Global, fleet: &mut Fleet) -> Result<bool, AllocError> {
+    let (asked, rest) = parted(OF_ONE_NODE, "\n");
+    let rows = rows_of_one(alloc)?;
+    let added = add_nodes(alloc, fleet)?;
+    let asked = wrong_line(fleet, asked)?.is_none();
+    let told = fleet.has_told(rows.as_slice());
+    let tried = wrong_line(fleet, rest)?.is_none();
+    Ok(added && asked && told && tried)
+}
+
+fn is_tried_on_one_node(alloc: Global) -> Result<bool, AllocError> {
     let mut fleet = Fleet::new(alloc);
-    let mut all = add_node(alloc, &mut fleet, "a")?;
-    for node in 1..50_u32 {
-        let certname = format!(in alloc; "node{node}")?;
-        all &= add_node(alloc, &mut fleet, certname.as_str())?;
-    }
-    Ok(all && are_told(alloc, &mut fleet)?)
+    let so = is_tried_in(alloc, &mut fleet);
+    drop(fleet);
+    so
 }
 
 #[test]
 fn a_pattern_is_tried_on_the_facts_of_one_node(rt: HostRuntime) -> Result<(), AllocError> {
-    assert!(rt; tried_on_one_node(rt.alloc())?);
+    assert!(rt; is_tried_on_one_node(rt.alloc())?);
     Ok(())
 }
