@@ -117,9 +117,9 @@ fleet each pattern is read before a text is tried on one, and nothing is tried w
 facts {"certname":"n","values":{"k":"web1","l":"db1","m":null},"producer_timestamp":"2024-05-01T10:00:00Z"}
 facts {"certname":"o","values":{"k":"web2"},"producer_timestamp":"2024-05-01T10:00:00Z"}
 course ["from","facts",["and",["~","value","w"],["~","name","k"]]]
-told read w;read k;tried w web1;tried k k;tried w db1;tried k l;tried k m;tried w web2;tried k k;
+told read w;read k;tried w web1;tried w db1;tried w ;tried w web2;tried k k;tried k l;tried k m;tried k k;
 course ["from","nodes",["and",["~","certname","n"],["in","certname",["extract","certname",["select_facts",["~","value","w"]]]]]]
-told read n;read w;tried w web1;tried w db1;tried w web2;tried n n;tried n o;
+told read n;read w;tried w web1;tried w db1;tried w ;tried w web2;tried n n;tried n o;
 course ["from","facts",["and",["~","value","w"],["~","name","("],["~","name","k"]]]
 told read w;refused (;
 course ["from","facts",["=","name","k"]]
