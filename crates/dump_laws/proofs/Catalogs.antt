@@ -1,7 +1,6 @@
 -- The payload of a catalog is taken as the catalog that it was made of.
-use Rattle.std.proofs.Common.{◌≡◌, ◌∙◌, ℕ, suc, List, [], ◌∷◌, ◌++◌, map, refl, sym, ap, Bool, true, false, Option, not, ◌&&◌, if◌then◌else◌, Ok, Err, unwrap_or}
+use Rattle.std.proofs.Common.{◌≡◌, ◌∙◌, ℕ, suc, List, [], ◌∷◌, ◌++◌, map, refl, ap, Bool, false, Option, not, if◌then◌else◌, Ok, Err, unwrap_or}
 use Rattle.std.specs.List.{AllByRecursion, filter, list_any}
-use Rattle.std.specs.Str.{bytes_eq}
 use Rattle.dump_spec.specs.text_spec.Json.{string}
 use Rattle.dump_spec.specs.fleet_rows.Texts.{sorted_texts}
 use Rattle.dump_spec.specs.fleet_rows.declared.catalog.CatalogChange.{CatalogChange}
@@ -16,20 +15,12 @@ use Rattle.dump_spec.specs.history_spec.Lawful.{IsResource, IsCatalogChange, Are
 use Rattle.dump_spec.specs.wire_spec.Table as table
 use Rattle.dump_spec.specs.wire_spec.Table.{Pairs, Checked, ◌>>=◌, top, outer, inner, each_from, has_name_of, new_resource, resources_from, relationship_name, relationship_of, is_edge, distinct_edges}
 use Rattle.dump_spec.specs.Payloads.{there, name_fields, edge_fields, edge_value, resource_fields, resource_value, catalog_fields}
-use Rattle.dump_spec.proofs.of_plain_laws.Booleans.{neither, never, not_so, or_falses}
-use Rattle.dump_spec.proofs.of_plain_laws.Lists.{bytes_eq-itself, one_text}
+use Rattle.dump_spec.proofs.of_plain_laws.Booleans.{neither, or_falses}
 use Rattle.dump_spec.proofs.of_plain_laws.Members.{All-Among}
+use Rattle.dump_spec.proofs.of_wire_laws.LawfulChanges.{name-symm}
 use Rattle.dump_spec.proofs.of_table_machine.Ranked.{filter-every}
 use Rattle.dump_laws.proofs.FoundFields.{required_is, optional_is}
 use Rattle.dump_laws.proofs.TakenValues.{nonempty, text_if, stamp_is, members_is, items_is, whole_if, if_so, true_if, so_is, if_some, some_is, members_if, tags_if, sorted_already}
-
--- the order of two texts doesn't matter
-text_back_step : (b : Bool) (s t : List ℕ) → bytes_eq s t ≡ b → b ≡ bytes_eq t s
-text_back_step true s t e = sym (bytes_eq-itself s) ∙ ap (λ u. bytes_eq u s) (one_text s t e)
-text_back_step false s t e = sym (not_so (bytes_eq t s) (λ h. never (bytes_eq s t) (ap (λ u. bytes_eq u t) (sym (one_text t s h)) ∙ bytes_eq-itself t) e))
-
-text_back : (s t : List ℕ) → bytes_eq s t ≡ bytes_eq t s
-text_back s t = text_back_step (bytes_eq s t) s t refl
 
 -- ---- a resource
 
@@ -68,9 +59,6 @@ resource_is i r h =
 
 -- ---- resources, of which no two have one name
 
-name_back : (r q : Resource) → has_name_of r q ≡ has_name_of q r
-name_back r q = λ i. text_back r.rtype q.rtype i && text_back r.title q.title i
-
 abbrev AreNew : List Resource → List Resource → Type 0
 AreNew before rs = AllByRecursion (λ r. list_any (has_name_of r) before ≡ false) rs
 
@@ -80,7 +68,7 @@ any_more p (q ∷ before) r h e = let parts = neither (p q) (list_any p before) 
 
 still_new : (before : List Resource) (r : Resource) (rs : List Resource) → AllByRecursion (λ q. has_name_of r q ≡ false) rs → AreNew before rs → AreNew (before ++ r ∷ []) rs
 still_new before r [] apart new = tt
-still_new before r (q ∷ rs) apart new = (any_more (has_name_of q) before r new.0 (name_back q r ∙ apart.0), still_new before r rs apart.1 new.1)
+still_new before r (q ∷ rs) apart new = (any_more (has_name_of q) before r new.0 (name-symm q r ∙ apart.0), still_new before r rs apart.1 new.1)
 
 pub resources_are : (before : List Resource) (i : ℕ) (rs : List Resource) → AllByRecursion IsResource rs → AreDistinctResources rs → AreNew before rs → resources_from before i (map resource_value rs) ≡ Ok rs
 resources_are before i [] all apart new = refl

@@ -33,7 +33,7 @@ use Rattle.dump_spec.proofs.of_table_machine.Ranked.{apart-risen}
 use Rattle.dump_spec.proofs.of_table_machine.ReportOrder.{report_cmp_total}
 use Rattle.dump_spec.proofs.of_table_machine.Risen.{KeysTell, sorted-sorted, among-sorted, among-from_sorted}
 use Rattle.dump_spec.proofs.of_list_again.Again.{given, is_told, active_is}
-use Rattle.dump_spec.proofs.of_list_again.HistoryTables.{by_rank_total, apart_ranks}
+use Rattle.dump_spec.proofs.of_list_again.HistoryTables.{by_rank_total, apart_by}
 use Rattle.dump_spec.proofs.of_list_again.Reports.{is_report, keys_tell}
 use Rattle.dump_spec.proofs.of_list_again.ToldNodes.{all_map}
 use Rattle.dump_laws.proofs.Alike.{AreAlike}
@@ -225,7 +225,7 @@ module _ (ttls : Ttls) (retention : Option ℤ) (received : ℤ) (receipt : ℕ)
   ranked_again =
       sorted-unique by_rank by_rank_total (sorted_by by_rank (sorted report_cmp M)) M
       (sorted_by-sorted by_rank by_rank_total (sorted report_cmp M)
-      (apart_ranks (sorted report_cmp M) (apart-risen by_rank by_rank_total report_cmp report_cmp_total (sorted report_cmp M) (sorted-sorted report_cmp report_cmp_total M) (λ x y a b tied. ranks_tell M M_rise x y (from_sorted x a) (from_sorted y b) tied)))) M_rise
+      (apart_by by_rank by_rank_total (sorted report_cmp M) (apart-risen by_rank by_rank_total report_cmp report_cmp_total (sorted report_cmp M) (sorted-sorted report_cmp report_cmp_total M) (λ x y a b tied. ranks_tell M M_rise x y (from_sorted x a) (from_sorted y b) tied)))) M_rise
       (λ w a. from_sorted w (among-from_sorted_by by_rank w (sorted report_cmp M) a))
       (λ w a. among-sorted_by by_rank w (sorted report_cmp M) (to_sorted w a))
 

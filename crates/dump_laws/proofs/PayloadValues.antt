@@ -1,11 +1,13 @@
 -- Payloads are JSON of at most 127 levels.
-use Rattle.std.proofs.Common.{◌≡◌, ◌⊎◌, inl, inr, ℕ, zero, suc, ◌<◌, ℤ, List, [], ◌∷◌, ◌++◌, map, arith, refl, sym, subst, Bool, true, false, Option, Some, None}
+use Rattle.std.proofs.Common.{ℕ, suc, ℤ, pos, ◌+ℤ◌, ◌*ℤ◌, List, [], ◌∷◌, ◌++◌, map, take, arith, refl, Bool, true, false, if◌then◌else◌, Option, Some, None}
 use Rattle.std.specs.List.{AllByRecursion}
 use Rattle.std.specs.Option.{option_map}
-use Rattle.std.specs.Prelude.{codes}
+use Rattle.std.specs.Prelude.{codes, nat_lt}
 use Rattle.std.specs.Str.{IsUtf8, IsAscii}
+use Rattle.std.specs.Str.Parse.{AllDigits}
 use Rattle.std.proofs.lemmas.Fmt.{IsAscii-from_digits}
-use Rattle.std.proofs.lemmas.Str.{IsUtf8-from_ascii, IsAscii-append}
+use Rattle.std.proofs.lemmas.Str.{IsUtf8-from_ascii, IsAscii-append, IsAscii-take}
+use Rattle.dump_spec.specs.fleet_rows.Printed.{clock_at}
 use Rattle.dump_spec.specs.fleet_rows.declared.catalog.Edge.{Edge}
 use Rattle.dump_spec.specs.fleet_rows.declared.catalog.Relationship.{Relationship}
 use Rattle.dump_spec.specs.fleet_rows.declared.catalog.Relationship.TheVariants as relationship
@@ -15,65 +17,40 @@ use Rattle.dump_spec.specs.fleet_rows.declared.change.Change.{Change}
 use Rattle.dump_spec.specs.fleet_rows.declared.change.Change.TheVariants.{Facts, Catalog, Report, Deactivate, Expiration}
 use Rattle.dump_spec.specs.history_spec.Lawful.{IfText, IfWhole, IfMoment, IsText, IsJson, HasStamp, IsResource, IsEdge, IsNamed, IsChange}
 use Rattle.dump_spec.specs.text_spec.Json.{Json, boolean, string, object, members_of}
-use Rattle.dump_spec.specs.text_spec.Stamp.{Zone, utc, ahead, behind, IsZone, IsFraction, StampText, IsStampText, stamp_text, date_text, hour_text, fraction_text, zone_text, digits_text}
+use Rattle.dump_spec.specs.text_spec.Stamp.{utc, ahead, behind, Clock, stamp_text, date_text, hour_text, fraction_text, zone_text, zone_seconds, digits_text, clock_text}
 use Rattle.dump_spec.specs.wire_spec.Table.{Pairs, relationship_name}
 use Rattle.dump_spec.specs.Payloads.{dictionary, list, members, whole, stamp, if_any, if_true, name_fields, edge_fields, edge_value, resource_fields, resource_value, change_fields, payload_of}
-use Rattle.dump_spec.specs.Stamps.{short_text}
+use Rattle.dump_spec.specs.Stamps.{without_zeros, if_some, short_zone, short_fraction, short_stamp, short_text}
 use Rattle.dump_spec.proofs.of_plain_laws.Members.{all_as}
-use Rattle.dump_spec.proofs.of_table_machine.ReportColumns.{key, number_is_value}
+use Rattle.dump_spec.proofs.of_table_machine.ReportColumns.{ascii-clock, ascii_from_all, key, number_is_value}
 use Rattle.dump_spec.proofs.of_text_laws.StampDigits.{AllDigits-digits_text}
-use Rattle.dump_laws.proofs.ShortStamps.{short_texts_are_stamps}
+use Rattle.dump_laws.proofs.Zeros.{is_front}
 use Rattle.dump_laws.proofs.FieldValues.{IsWithin, IfWithin, dictionary_within, list_within}
 
 -- ---- stamps are ASCII
 
-ascii-cons : (x : ℕ) (xs : List ℕ) → x < 128 → IsAscii xs → IsAscii (x ∷ xs)
-ascii-cons x xs h k zero = h
-ascii-cons x xs h k (suc i) = k i
+-- a day, and a time to the second: 19 bytes of what is printed for a clock
+shown : (c : Clock) (rest : List ℕ) → IsAscii rest → IsAscii (date_text c.year c.month c.day ++ 84 ∷ (hour_text c.hour c.minute ++ 58 ∷ (digits_text 2 c.second ++ rest)))
+shown c rest h = IsAscii-append (take 19 (clock_text 0 c)) rest (IsAscii-take (clock_text 0 c) 19 (ascii-clock 0 c)) h
 
-ascii-nil : IsAscii []
-ascii-nil i = omega arith
+fractions : (ds : List ℕ) → AllDigits 10 ds → IsAscii (fraction_text (if_some ds))
+fractions [] all = ascii_from_all [] refl
+fractions (d ∷ ds) all = IsAscii-append (46 ∷ []) (d ∷ ds) (ascii_from_all (46 ∷ []) refl) (IsAscii-from_digits (d ∷ ds) all)
 
-digits : (width n : ℕ) → IsAscii (digits_text width n)
-digits width n = IsAscii-from_digits (digits_text width n) (AllDigits-digits_text width n)
+zones : (early late : Bool) → IsAscii (zone_text (if early then ahead 23 59 else (if late then behind 23 59 else utc 90)))
+zones true late = ascii_from_all (codes "+23:59") refl
+zones false true = ascii_from_all (codes "-23:59") refl
+zones false false = ascii_from_all (codes "Z") refl
 
--- a text, a byte, and what stands behind it
-joined : (xs : List ℕ) (b : ℕ) (ys : List ℕ) → b < 128 → IsAscii xs → IsAscii ys → IsAscii (xs ++ b ∷ ys)
-joined xs b ys h k l = IsAscii-append xs (b ∷ ys) k (ascii-cons b ys h l)
-
-hours : (hour minute : ℕ) → IsAscii (hour_text hour minute)
-hours hour minute = joined (digits_text 2 hour) 58 (digits_text 2 minute) (omega arith) (digits 2 hour) (digits 2 minute)
-
-dates : (year month day : ℕ) → IsAscii (date_text year month day)
-dates year month day =
-    joined (digits_text 4 year) 45 (digits_text 2 month ++ 45 ∷ digits_text 2 day) (omega arith) (digits 4 year)
-    (joined (digits_text 2 month) 45 (digits_text 2 day) (omega arith) (digits 2 month) (digits 2 day))
-
-fractions : (o : Option (List ℕ)) → IsFraction o → IsAscii (fraction_text o)
-fractions None h = ascii-nil
-fractions (Some ds) h = ascii-cons 46 ds (omega arith) (IsAscii-from_digits ds h.2)
-
-zones : (z : Zone) → IsZone z → IsAscii (zone_text z)
-zones (utc letter) (inl e) = ascii-cons letter [] (omega (arith, e)) ascii-nil
-zones (utc letter) (inr e) = ascii-cons letter [] (omega (arith, e)) ascii-nil
-zones (ahead hour minute) h = ascii-cons 43 (hour_text hour minute) (omega arith) (hours hour minute)
-zones (behind hour minute) h = ascii-cons 45 (hour_text hour minute) (omega arith) (hours hour minute)
-
-letters : (letter : ℕ) → (letter ≡ 84) ⊎ (letter ≡ 116) → letter < 128
-letters letter (inl e) = omega (arith, e)
-letters letter (inr e) = omega (arith, e)
-
-stamps : (s : StampText) → IsStampText s → IsAscii (stamp_text s)
-stamps s h =
-    joined (date_text s.year s.month s.day) s.letter (hour_text s.hour s.minute ++ 58 ∷ (digits_text 2 s.second ++ (fraction_text s.fraction ++ zone_text s.zone))) (letters s.letter h.letter) (dates s.year s.month s.day)
-    (joined (hour_text s.hour s.minute) 58 (digits_text 2 s.second ++ (fraction_text s.fraction ++ zone_text s.zone)) (omega arith) (hours s.hour s.minute)
-    (IsAscii-append (digits_text 2 s.second) (fraction_text s.fraction ++ zone_text s.zone) (digits 2 s.second)
-    (IsAscii-append (fraction_text s.fraction) (zone_text s.zone) (fractions s.fraction h.fraction) (zones s.zone h.zone))))
-
-short_text_is_utf8 : (m : ℤ) → HasStamp m → IsUtf8 (short_text m)
-short_text_is_utf8 m h =
-    let is = short_texts_are_stamps m h in
-    subst IsUtf8 (sym is.text_is) (IsUtf8-from_ascii (stamp_text is.stamp) (stamps is.stamp is.is_stamp))
+short_text_is_utf8 : (m : ℤ) → IsUtf8 (short_text m)
+unfolding short_text
+short_text_is_utf8 m =
+    let c = clock_at (m +ℤ zone_seconds (short_zone m) *ℤ pos 1_000_000_000) in
+    let nanos = digits_text 9 c.nanos in
+    IsUtf8-from_ascii (stamp_text (short_stamp m))
+    (shown c (fraction_text (short_fraction c.nanos) ++ zone_text (short_zone m))
+    (IsAscii-append (fraction_text (short_fraction c.nanos)) (zone_text (short_zone m)) (fractions (without_zeros nanos) ((is_front nanos).digits (AllDigits-digits_text 9 c.nanos)))
+    (zones (nat_lt (clock_at m).year 1) (nat_lt 9900 (clock_at m).year))))
 
 -- ---- values
 
@@ -97,7 +74,7 @@ whole_if n None h = tt
 whole_if n (Some k) h = record { value = number_is_value (Some k) h; few = omega arith }
 
 moment : (n : ℕ) (m : ℤ) → HasStamp m → IsWithin n (stamp m)
-moment n m h = record { value = short_text_is_utf8 m h; few = omega arith }
+moment n m h = record { value = short_text_is_utf8 m; few = omega arith }
 
 moment_if : (n : ℕ) (o : Option ℤ) → IfMoment o → IfWithin n (option_map stamp o)
 moment_if n None h = tt

@@ -23,6 +23,7 @@ use Rattle.dump_spec.specs.checkpoint_spec.Lists.{by_rank}
 use Rattle.dump_spec.specs.list_again.Told.{if_there, change_in, swept_if}
 use Rattle.dump_spec.specs.list_again.Whole.{greatest_there, empty_report, is_moment, lacking}
 use Rattle.dump_spec.specs.Dumps.{node_changes}
+use Rattle.dump_spec.proofs.of_plain_laws.Booleans.{either}
 use Rattle.dump_spec.proofs.of_plain_laws.Members.{Among, All-from_Among, all_as, all_both, Among-from_map, Among-from_Contains, Contains-from_Among}
 use Rattle.dump_spec.proofs.of_history_laws.GreatestMoments.{activity_is_the_greatest}
 use Rattle.dump_spec.proofs.of_history_laws.Lives.{comes_from}
@@ -55,16 +56,9 @@ swept_trace kinds (Some m) history h is = (h, is)
 
 -- ---- sweeps of a trace have stamps
 
-later_stamp : (m : ℤ) (o : Option ℤ) → HasStamp m → IfMoment o → IfMoment (later m o)
-later_stamp m None h k = h
-later_stamp m (Some n) h k = by (int_lt m n)
-  where
-    by : (b : Bool) → HasStamp (if b then n else m)
-    by true = k
-    by false = h
-
 sweep_step : (b : Bool) (m : ℤ) (o : Option ℤ) → HasStamp m → IfMoment o → IfMoment (if b then later m o else o)
-sweep_step true m o h k = later_stamp m o h k
+sweep_step true m None h k = h
+sweep_step true m (Some n) h k = either HasStamp (int_lt m n) n m k h
 sweep_step false m o h k = k
 
 pub expiry_has_stamp : (history : Trace) → IsTrace history → IfMoment (greatest_expiry history)
@@ -79,19 +73,12 @@ retention_has_stamp (swept kinds m ∷ earlier) is = sweep_step kinds.reports m 
 
 -- ---- changes
 
-certname_of : (c : Change) → IsChange c → IsCertname (change_certname c)
-certname_of (Facts c) h = h.certname
-certname_of (Catalog c) h = h.certname
-certname_of (Report c) h = h.certname
-certname_of (Deactivate c) h = h.certname
-certname_of (Expiration c) h = h.certname
-
-stamp_of : (c : Change) → IsChange c → HasStamp (change_stamp c)
-stamp_of (Facts c) h = h.stamp
-stamp_of (Catalog c) h = h.stamp
-stamp_of (Report c) h = h.stamp
-stamp_of (Deactivate c) h = h.stamp
-stamp_of (Expiration c) h = h.stamp
+name_and_stamp : (c : Change) → IsChange c → IsCertname (change_certname c) × HasStamp (change_stamp c)
+name_and_stamp (Facts c) h = (h.certname, h.stamp)
+name_and_stamp (Catalog c) h = (h.certname, h.stamp)
+name_and_stamp (Report c) h = (h.certname, h.stamp)
+name_and_stamp (Deactivate c) h = (h.certname, h.stamp)
+name_and_stamp (Expiration c) h = (h.certname, h.stamp)
 
 none_listed : IsList []
 none_listed = record { elements = tt; counted = (let few : 0 < 2 ^ 32 = omega arith in few) }
@@ -139,7 +126,7 @@ module _ (ttls : Ttls) (history : Trace) (is : IsTrace history) (n : List ℕ) w
   of_spare there None name g = tt
   of_spare there (Some m) name g =
       let x = g.0 in
-      spare_step (is_moment m there) m name (subst HasStamp x.3 (stamp_of x.0.change (lawful x.0 (Among-from_Contains xs x.0 x.1))))
+      spare_step (is_moment m there) m name (subst HasStamp x.3 (name_and_stamp x.0.change (lawful x.0 (Among-from_Contains xs x.0 x.1))).1)
 
   of_reports : AllByRecursion IsChange (map change_in (sorted_by by_rank node.reports))
   of_reports =
@@ -155,7 +142,7 @@ module _ (ttls : Ttls) (history : Trace) (is : IsTrace history) (n : List ℕ) w
   name_is : Among n (nodes ttls history) → IsCertname n
   name_is a =
       let some = some_of xs ((nodes_have_a_life ttls history n).0 (Contains-from_Among (nodes ttls history) n a)) in
-      subst IsCertname (sym (comes_from ttls n history some.0 some.1).certname) (certname_of some.0.change (lawful some.0 some.1))
+      subst IsCertname (sym (comes_from ttls n history some.0 some.1).certname) (name_and_stamp some.0.change (lawful some.0 some.1)).0
 
   pub changes_are_lawful : Among n (nodes ttls history) → AllByRecursion IsChange (node_changes node)
   changes_are_lawful a =

@@ -1,12 +1,12 @@
 -- The table of each history meets the rules of tables that can be told again.
-use Rattle.std.proofs.Common.{◌≡◌, ◌≢◌, ◌∙◌, ◌⊎◌, inl, inr, ℕ, suc, ◌≤◌, ℤ, List, [], ◌∷◌, ◌++◌, length, map, arith, refl, sym, ap, subst, Bool, true, false, not, ◌&&◌, if◌then◌else◌, Option, Some, None}
+use Rattle.std.proofs.Common.{◌≡◌, ◌≢◌, ◌∙◌, ◌⊎◌, inl, inr, ℕ, ◌≤◌, ℤ, List, [], ◌∷◌, ◌++◌, length, map, arith, refl, sym, ap, subst, Bool, true, false, not, ◌&&◌, if◌then◌else◌, Option, Some, None}
 use Rattle.std.proofs.lemmas.Cmp.{on_total, tied_itself}
 use Rattle.std.specs.Cmp.{IsTotalOrder}
 use Rattle.std.specs.List.Sorted.{IsStrictlySortedBy}
 use Rattle.std.specs.Option.{option_map}
-use Rattle.std.specs.Ordering.{is_gt}
 use Rattle.std.specs.Prelude.{is_some}
 use Rattle.std.specs.Str.{bytes_eq}
+use Rattle.std.specs.declared.cmp.Ordering.{Ordering}
 use Rattle.std.specs.declared.cmp.Ordering.TheVariants.{Less, Equal}
 use Rattle.checkpoint_spec.specs.fleet_rows.Change.{change_certname, change_kind, change_stamp}
 use Rattle.checkpoint_spec.specs.fleet_rows.declared.applied.Applied.{Applied}
@@ -21,14 +21,14 @@ use Rattle.checkpoint_spec.specs.history_spec.Life.{life, nodes, kept_reports, g
 use Rattle.checkpoint_spec.specs.history_spec.Node.{newest, greatest_activity}
 use Rattle.checkpoint_spec.specs.history_spec.Report.{is_same_report, is_retained}
 use Rattle.checkpoint_spec.specs.history_spec.Trace.{Trace, IsTrace, applied, applied_as, is_kind, rank_of}
-use Rattle.checkpoint_spec.specs.table_spec.Sorted.{report_cmp, insert_by, sorted_by}
+use Rattle.checkpoint_spec.specs.table_spec.Sorted.{report_cmp, sorted_by}
 use Rattle.checkpoint_spec.specs.table_machine.Places.{sorted}
 use Rattle.checkpoint_spec.specs.table_machine.Table.{node_of}
 use Rattle.checkpoint_spec.specs.Lists.{by_rank}
 use Rattle.checkpoint_spec.proofs.of_plain_laws.Booleans.{both_true, no_truth, not_so}
 use Rattle.checkpoint_spec.proofs.of_plain_laws.Lists.{bytes_eq-itself}
 use Rattle.checkpoint_spec.proofs.of_plain_laws.Members.{Among, All-from_Among, Among-from_filter, Among-from_map, Contains-from_Among}
-use Rattle.checkpoint_spec.proofs.of_plain_laws.StrictlySorted.{sorted-below, sorted-rest}
+use Rattle.checkpoint_spec.proofs.of_plain_laws.StrictlySorted.{sorted-below, sorted-rest, sorted-unique}
 use Rattle.checkpoint_spec.proofs.of_history_laws.GreatestMoments.{activity_is_the_greatest}
 use Rattle.checkpoint_spec.proofs.of_history_laws.Lives.{comes_from}
 use Rattle.checkpoint_spec.proofs.of_history_laws.NewestIsGreatest.{newest_is_greatest, none_of_kind}
@@ -36,7 +36,7 @@ use Rattle.checkpoint_spec.proofs.of_history_laws.Ranks.{rank_cmp_total, kind_fr
 use Rattle.checkpoint_spec.proofs.of_history_laws.ReportChoice.{the_limit_is_kept}
 use Rattle.checkpoint_spec.proofs.of_history_laws.TraceLemmas.{traces_have_distinct_receipts, nodes_have_a_life}
 use Rattle.checkpoint_spec.proofs.of_table_laws.RowNodes.{life_is_lawful}
-use Rattle.checkpoint_spec.proofs.of_table_laws.SortedLists.{Apart, among-from_sorted_by, sorted_by-sorted}
+use Rattle.checkpoint_spec.proofs.of_table_laws.SortedLists.{Apart, among-sorted_by, among-from_sorted_by, sorted_by-sorted}
 use Rattle.checkpoint_spec.proofs.of_table_machine.KeptReports.{tied_from_same}
 use Rattle.checkpoint_spec.proofs.of_table_machine.Least.{put-longer}
 use Rattle.checkpoint_spec.proofs.of_table_machine.LimitedReports.{equal_ranks}
@@ -57,9 +57,9 @@ use Rattle.list_again.proofs.Reports.{retained_is, mapped_length}
 pub by_rank_total : IsTotalOrder by_rank
 by_rank_total = on_total rank_of rank_cmp_total
 
-pub apart_ranks : (xs : List Applied) → ranked.Apart by_rank by_rank_total xs → Apart by_rank by_rank_total xs
-apart_ranks [] h = tt
-apart_ranks (x ∷ xs) h = (h.0, apart_ranks xs h.1)
+pub apart_by : {X : Type 0} (r : X → X → Ordering) (o : IsTotalOrder r) (xs : List X) → ranked.Apart r o xs → Apart r o xs
+apart_by r o [] h = tt
+apart_by r o (x ∷ xs) h = (h.0, apart_by r o xs h.1)
 
 -- of a list that rises by rank, in which reports that are the same are one, no two are the same
 different_from : (xs : List Applied) → IsStrictlySortedBy by_rank xs → ((x y : Applied) → Among x xs → Among y xs → is_same_report x.change y.change ≡ true → x ≡ y) → AreDifferent (map change_in xs)
@@ -92,21 +92,10 @@ one_stamp_of ttls a b h k same =
 
 -- ---- lengths
 
-inserted_length : (x : Applied) (ys : List Applied) → length (insert_by by_rank x ys) ≡ suc (length ys)
-inserted_length x [] = refl
-inserted_length x (y ∷ ys) = by (is_gt (by_rank x y)) (inserted_length x ys)
-  where
-    by : (b : Bool) → length (insert_by by_rank x ys) ≡ suc (length ys) → length (if b then y ∷ insert_by by_rank x ys else x ∷ y ∷ ys) ≡ suc (suc (length ys))
-    by true h = ap suc h
-    by false h = refl
-
-ranked_length : (xs : List Applied) → length (sorted_by by_rank xs) ≡ length xs
-ranked_length [] = refl
-ranked_length (x ∷ xs) = inserted_length x (sorted_by by_rank xs) ∙ ap suc (ranked_length xs)
-
-sorted_length : (xs : List Applied) → length (sorted report_cmp xs) ≤ length xs
-sorted_length [] = omega arith
-sorted_length (x ∷ xs) = omega (arith, put-longer (report_cmp x) x (λ z. z) (sorted report_cmp xs), sorted_length xs)
+-- sorting makes no list longer, whatever the order
+sorted_most : {X : Type 0} (r : X → X → Ordering) (xs : List X) → length (sorted r xs) ≤ length xs
+sorted_most r [] = omega arith
+sorted_most r (x ∷ xs) = omega (arith, put-longer (r x) x (λ z. z) (sorted r xs), sorted_most r xs)
 
 -- ---- one node
 
@@ -144,7 +133,13 @@ module _ (ttls : Ttls) (history : Trace) (is : IsTrace history) (n : List ℕ) w
   rise_by_rank : IsStrictlySortedBy by_rank by_ranks
   rise_by_rank =
       sorted_by-sorted by_rank by_rank_total rs
-      (apart_ranks rs (ranked.apart-risen by_rank by_rank_total report_cmp report_cmp_total rs (sorted-sorted report_cmp report_cmp_total kept) ranks_tell))
+      (apart_by by_rank by_rank_total rs (ranked.apart-risen by_rank by_rank_total report_cmp report_cmp_total rs (sorted-sorted report_cmp report_cmp_total kept) ranks_tell))
+
+  ranked_is : by_ranks ≡ sorted by_rank rs
+  ranked_is =
+      sorted-unique by_rank by_rank_total by_ranks (sorted by_rank rs) rise_by_rank (sorted-sorted by_rank by_rank_total rs)
+      (λ w a. among-sorted by_rank by_rank_total w rs ranks_tell (among-from_sorted_by by_rank w rs a))
+      (λ w a. among-sorted_by by_rank w rs (among-from_sorted by_rank by_rank_total w rs a))
 
   is_kept : (x : Applied) → Among x by_ranks → Among x kept
   is_kept x a = among-from_sorted report_cmp report_cmp_total x kept (among-from_sorted_by by_rank x rs a)
@@ -173,7 +168,7 @@ module _ (ttls : Ttls) (history : Trace) (is : IsTrace history) (n : List ℕ) w
   within None e = tt
   within (Some limit) e =
       let most = the_limit_is_kept ttls n history limit e (traces_have_distinct_receipts history is) in
-      omega (arith, mapped_length by_ranks, ranked_length rs, sorted_length kept, most)
+      omega (arith, mapped_length by_ranks, ap length ranked_is, sorted_most by_rank rs, sorted_most report_cmp kept, most)
 
   are_kept : AreKept ttls retention n (map change_in by_ranks)
   are_kept = record {
