@@ -9,3 +9,4 @@ pub mod Tried
 pub mod Picks
 pub mod Stages
 mod CountLaws
+mod NarrowAnswers

@@ -6,6 +6,7 @@ pub mod Begun
 pub mod Fitting
 pub mod Answers
 pub mod Courses
+pub mod Narrow
 -- Re-exports for the crates above.
 pub use Rattle.query_rows.specs as query_rows
 pub use Rattle.query_rows.specs.Tables as Tables

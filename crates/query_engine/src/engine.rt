@@ -18,8 +18,9 @@ ghost use Rattle.query_rows.specs.Tables.{world_of};
 ghost use Rattle.query_reading.specs.declared.reading.Reading.TheVariants.{InReach};
 ghost use Rattle.query_engine.specs.declared.engine.QueryFault.TheVariants.{Memory};
 
-use crate::answer::{Answered, answer_of};
+use crate::answer::Answered;
 use crate::counting::counted;
+use crate::narrow::{answer_from, whole_from};
 use crate::shown::output_names;
 use fleet_tables::fleet_rows::Names;
 use fleet_tables::{Steps, Tables};
@@ -126,9 +127,9 @@ fn read_rows<'q, L: Ledger, P: Patterns>(
         alloc, tables, patterns, compiled, found, stage, steps, named, &pins, &nodes, enough, walk,
     )?;
     match stage.shape {
-        Shape::Whole => Ok(Answered::Rows(rows)),
+        Shape::Whole => whole_from(alloc, rows),
         Shape::Answers(shown, group, paging) => {
-            answer_of(
+            answer_from(
                 alloc,
                 patterns.keys(),
                 stage.entity,

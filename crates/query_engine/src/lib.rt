@@ -29,6 +29,7 @@ mod counting;
 mod engine;
 mod functions;
 mod groups;
+mod narrow;
 mod shown;
 mod sums;
 

@@ -4,6 +4,7 @@ mod TextCells
 mod WantedLaws
 mod FetchedLaws
 mod FactLaws
+pub mod NarrowLaws
 mod PlacedRows
 pub mod RowReads
 mod JoinLaws

@@ -4,3 +4,4 @@ pub mod Joins
 pub mod Ordered
 pub mod Stopping
 pub mod Told
+pub mod Narrow

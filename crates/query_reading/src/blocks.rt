@@ -1,5 +1,5 @@
 //! Reads rows in blocks: each pattern of the filter is tried on all texts of a block in one call.
-ghost use Rattle.std.specs.Prelude.{◌≡◌, ◌++◌, ◌∷◌, ◌+◌, ◌<◌, ◌≤◌, [], ℕ, List, map, length, IfOk, IfSome, OnOk, Some, filter, slice_range};
+ghost use Rattle.std.specs.Prelude.{◌≡◌, ◌++◌, ◌∷◌, ◌+◌, ◌<◌, ◌≤◌, [], ℕ, List, map, length, IfOk, IfSome, OnOk, Some, filter, slice_range, true, false};
 ghost use Rattle.std.specs.List.{AllByRecursion};
 ghost use Rattle.query_plan.specs.Plan.{is_chosen};
 ghost use Rattle.query_plan.specs.Made.{stage_of};
@@ -10,16 +10,19 @@ ghost use Rattle.query_rows.specs.Tries.{HasTried};
 ghost use Rattle.query_rows.specs.Scenes.{world};
 ghost use Rattle.query_rows.specs.Tables.{world_of};
 ghost use Rattle.query_reading.specs.Fetched.{picked};
+ghost use Rattle.query_reading.specs.Narrow.{steps_make};
 ghost use Rattle.query_reading.specs.Told.{IsTold};
+ghost use Rattle.row_views.specs.Narrow.{shown_as};
 
 use crate::activity::{Told, is_seen_once};
+use crate::narrow::reads_narrow;
 use fleet_tables::fleet_rows::Entity;
 use fleet_tables::{Steps, Tables};
 use paging_text::Lines;
 use pattern_port::Patterns;
 use query_plan::Stage;
 use query_rows::{Column, Known, Ready, Scene, columns_of, fact_rows, holds_given};
-use row_views::{View, view_at};
+use row_views::{KeptRow, KeptRows, View, kept_row, views_of};
 use std::alloc::{AllocError, Global};
 use std::sync::ledger::Ledger;
 
@@ -27,22 +30,23 @@ use std::sync::ledger::Ledger;
 const BLOCK: usize = 1024;
 
 // The rows at the places. Each is read once.
-fn views_at<'t, L: Ledger>(
+fn rows_at<'t, L: Ledger>(
     alloc: Global,
     tables: &'t Tables,
     entity: Entity,
+    narrow: bool,
     places: &[usize],
     walk: &mut Steps<L>,
-) -> Result<Vec<View<'t>>, AllocError>
+) -> Result<Vec<KeptRow<'t>>, AllocError>
     requires places { AllByRecursion (λ place. place < length (table_rows entity tables.now)) places.now }
     ensures cost { walk.new ≤ walk.old + length places.now }
-    ensures value { IfOk result (λ views. views.items ≡ picked (table_rows entity tables.now) places.now) }
+    ensures value { IfOk result (λ rows. rows.items ≡ picked (table_rows entity tables.now) places.now) }
 {
-    let mut views = Vec::with_capacity(alloc, places.len())?;
-    'viewing: for place in places {
-        views.push(view_at(alloc, tables, entity, *place, walk)?)?;
+    let mut rows = Vec::with_capacity(alloc, places.len())?;
+    'reading: for place in places {
+        rows.push(kept_row(alloc, tables, entity, *place, narrow, walk)?)?;
     }
-    Ok(views)
+    Ok(rows)
 }
 
 fn is_chosen_given<P: Patterns>(
@@ -87,8 +91,9 @@ fn is_chosen_given<P: Patterns>(
     }
 }
 
-// Makes row `i` of a block and appends it, if the stage chooses it.
-fn choose_given<P: Patterns>(
+// The same of a row of the block that is seen narrow or whole.
+#[tactic(auto, using(query_rows::proofs::TryLaws::tried_nothing))]
+fn is_row_chosen_given<P: Patterns>(
     scene: &Scene,
     patterns: &mut P,
     compiled: &[P::Compiled],
@@ -97,13 +102,54 @@ fn choose_given<P: Patterns>(
     steps: &[Ready],
     columns: &[Column],
     i: usize,
-    row: View<'_>,
+    entity: Entity,
+    narrow: bool,
+    row: &KeptRow<'_>,
     stack: &mut Vec<bool>,
     last: &mut Option<Told>,
-    chosen: &mut Lines,
+) -> Result<bool, AllocError>
+    requires steps { steps.now ≡ stage.now.steps }
+    requires entity { stage.now.entity ≡ Some entity }
+    requires narrow { narrow ≡ true → steps_make entity stage.now.steps ≡ false }
+    requires given { AreGiven scene.now (P.says patterns.old) (map (λ c. P.made_from c) compiled.now) stage.now.entity
+        (shown_as narrow entity row.now) steps.now columns.now i }
+    requires told { IfSome last.old (IsTold scene.now.tables.now) }
+    ensures told { IfSome last.new (IsTold scene.now.tables.now) }
+    ensures same { (p t : List ℕ) → P.says patterns.new p t ≡ P.says patterns.old p t }
+    ensures calm { P.refusals patterns.new ≡ P.refusals patterns.old }
+    ensures silent { P.asked patterns.new ≡ P.asked patterns.old }
+    ensures tried { HasTried (P.course patterns.old) (P.course patterns.new) }
+    ensures value { IfOk result (λ b. b ≡ is_chosen (world scene.now (P.says patterns.old)) (map (λ c. P.made_from c) compiled.now) found.now
+        (stage_of stage.now) row.now) }
+{
+    let view = row.view(scene.alloc, entity, narrow)?;
+    is_chosen_given(
+        scene, patterns, compiled, found, stage, steps, columns, i, &view, stack, last,
+    )
+}
+
+// Appends row `i` of a block, if the stage chooses it.
+fn choose_given<'t, P: Patterns>(
+    scene: &Scene,
+    patterns: &mut P,
+    compiled: &[P::Compiled],
+    found: &[Known],
+    stage: &Stage,
+    steps: &[Ready],
+    columns: &[Column],
+    i: usize,
+    entity: Entity,
+    narrow: bool,
+    row: KeptRow<'t>,
+    stack: &mut Vec<bool>,
+    last: &mut Option<Told>,
+    chosen: &mut KeptRows<'t>,
 ) -> Result<(), AllocError>
     requires steps { steps.now ≡ stage.now.steps }
-    requires given { AreGiven scene.now (P.says patterns.old) (map (λ c. P.made_from c) compiled.now) stage.now.entity row steps.now columns.now i }
+    requires entity { stage.now.entity ≡ Some entity }
+    requires narrow { narrow ≡ true → steps_make entity stage.now.steps ≡ false }
+    requires given { AreGiven scene.now (P.says patterns.old) (map (λ c. P.made_from c) compiled.now) stage.now.entity
+        (shown_as narrow entity row) steps.now columns.now i }
     requires told { IfSome last.old (IsTold scene.now.tables.now) }
     ensures told { IfSome last.new (IsTold scene.now.tables.now) }
     ensures same { (p t : List ℕ) → P.says patterns.new p t ≡ P.says patterns.old p t }
@@ -113,17 +159,18 @@ fn choose_given<P: Patterns>(
     ensures value { OnOk result (chosen.new ≡ chosen.old ++ filter
         (is_chosen (world scene.now (P.says patterns.old)) (map (λ c. P.made_from c) compiled.now) found.now (stage_of stage.now)) (row.entry ∷ [])) }
 {
-    if is_chosen_given(
-        scene, patterns, compiled, found, stage, steps, columns, i, &row, stack, last,
+    if is_row_chosen_given(
+        scene, patterns, compiled, found, stage, steps, columns, i, entity, narrow, &row, stack,
+        last,
     )? {
-        chosen.push(row.into_cells(scene.alloc)?)?;
+        chosen.push(row)?;
     }
     Ok(())
 }
 
 // Appends the rows of a block that the stage chooses.
 #[tactic(auto, using(query_rows::proofs::TryLaws::tried_nothing, query_rows::proofs::TryLaws::tried_then))]
-fn choose_block<P: Patterns>(
+fn choose_block<'t, P: Patterns>(
     scene: &Scene,
     patterns: &mut P,
     compiled: &[P::Compiled],
@@ -131,11 +178,16 @@ fn choose_block<P: Patterns>(
     stage: &Stage,
     steps: &[Ready],
     columns: &[Column],
-    rows: Vec<View<'_>>,
-    chosen: &mut Lines,
+    entity: Entity,
+    narrow: bool,
+    rows: Vec<KeptRow<'t>>,
+    chosen: &mut KeptRows<'t>,
 ) -> Result<(), AllocError>
     requires steps { steps.now ≡ stage.now.steps }
-    requires columns { AreColumns scene.now (P.says patterns.old) (map (λ c. P.made_from c) compiled.now) stage.now.entity rows.items steps.now columns.now }
+    requires entity { stage.now.entity ≡ Some entity }
+    requires narrow { narrow ≡ true → steps_make entity stage.now.steps ≡ false }
+    requires columns { AreColumns scene.now (P.says patterns.old) (map (λ c. P.made_from c) compiled.now) stage.now.entity
+        (map (shown_as narrow entity) rows.items) steps.now columns.now }
     ensures same { (p t : List ℕ) → P.says patterns.new p t ≡ P.says patterns.old p t }
     ensures calm { P.refusals patterns.new ≡ P.refusals patterns.old }
     ensures silent { P.asked patterns.new ≡ P.asked patterns.old }
@@ -148,27 +200,55 @@ fn choose_block<P: Patterns>(
     let mut i = 0;
     'choosing: for row in rows {
         choose_given(
-            scene, patterns, compiled, found, stage, steps, columns, i, row, &mut stack, &mut last,
-            chosen,
+            scene, patterns, compiled, found, stage, steps, columns, i, entity, narrow, row,
+            &mut stack, &mut last, chosen,
         )?;
         i += 1;
     }
     Ok(())
 }
 
-// The same, with the columns of the block.
+// The columns of the block.
+#[tactic(auto, using(query_rows::proofs::TryLaws::tried_nothing))]
+fn seen_columns<P: Patterns>(
+    scene: &Scene,
+    patterns: &mut P,
+    compiled: &[P::Compiled],
+    stage: &Stage,
+    steps: &[Ready],
+    entity: Entity,
+    narrow: bool,
+    rows: &[KeptRow<'_>],
+) -> Result<Vec<Column>, AllocError>
+    ensures same { (p t : List ℕ) → P.says patterns.new p t ≡ P.says patterns.old p t }
+    ensures calm { P.refusals patterns.new ≡ P.refusals patterns.old }
+    ensures silent { P.asked patterns.new ≡ P.asked patterns.old }
+    ensures tried { HasTried (P.course patterns.old) (P.course patterns.new) }
+    ensures value { IfOk result (λ columns. AreColumns scene.now (P.says patterns.old) (map (λ c. P.made_from c) compiled.now) stage.now.entity
+        (map (shown_as narrow entity) rows.now) steps.now columns.items) }
+{
+    let views = views_of(scene.alloc, rows, entity, narrow)?;
+    let seen = views.as_slice();
+    columns_of(scene, stage.entity, seen, patterns, compiled, steps)
+}
+
+// Appends the rows of a block that the stage chooses, by the columns of the block.
 #[tactic(auto, using(query_rows::proofs::TryLaws::tried_then))]
-fn choose_tried<P: Patterns>(
+fn choose_tried<'t, P: Patterns>(
     scene: &Scene,
     patterns: &mut P,
     compiled: &[P::Compiled],
     found: &[Known],
     stage: &Stage,
     steps: &[Ready],
-    rows: Vec<View<'_>>,
-    chosen: &mut Lines,
+    entity: Entity,
+    narrow: bool,
+    rows: Vec<KeptRow<'t>>,
+    chosen: &mut KeptRows<'t>,
 ) -> Result<(), AllocError>
-    requires { steps.now ≡ stage.now.steps }
+    requires steps { steps.now ≡ stage.now.steps }
+    requires entity { stage.now.entity ≡ Some entity }
+    requires narrow { narrow ≡ true → steps_make entity stage.now.steps ≡ false }
     ensures same { (p t : List ℕ) → P.says patterns.new p t ≡ P.says patterns.old p t }
     ensures calm { P.refusals patterns.new ≡ P.refusals patterns.old }
     ensures silent { P.asked patterns.new ≡ P.asked patterns.old }
@@ -177,18 +257,20 @@ fn choose_tried<P: Patterns>(
         (is_chosen (world scene.now (P.says patterns.old)) (map (λ c. P.made_from c) compiled.now) found.now (stage_of stage.now)) rows.entry.items) }
 {
     let seen = rows.as_slice();
-    let columns = columns_of(scene, stage.entity, seen, patterns, compiled, steps)?;
+    let columns = seen_columns(
+        scene, patterns, compiled, stage, steps, entity, narrow, seen,
+    )?;
     let list = columns.as_slice();
     choose_block(
-        scene, patterns, compiled, found, stage, steps, list, rows, chosen,
+        scene, patterns, compiled, found, stage, steps, list, entity, narrow, rows, chosen,
     )
 }
 
 // Reads a block, and appends its rows that the stage chooses.
 #[tactic(auto, using(query_rows::proofs::TryLaws::tried_nothing))]
-fn read_block<L: Ledger, P: Patterns>(
+fn read_block<'t, L: Ledger, P: Patterns>(
     alloc: Global,
-    tables: &Tables,
+    tables: &'t Tables,
     patterns: &mut P,
     compiled: &[P::Compiled],
     found: &[Known],
@@ -196,7 +278,7 @@ fn read_block<L: Ledger, P: Patterns>(
     steps: &[Ready],
     entity: Entity,
     places: &[usize],
-    chosen: &mut Lines,
+    chosen: &mut KeptRows<'t>,
     walk: &mut Steps<L>,
 ) -> Result<(), AllocError>
     requires steps { steps.now ≡ stage.now.steps }
@@ -211,7 +293,8 @@ fn read_block<L: Ledger, P: Patterns>(
     ensures value { OnOk result (chosen.new ≡ chosen.old ++ filter (is_chosen (world_of tables.now (P.says patterns.old))
         (map (λ c. P.made_from c) compiled.now) found.now (stage_of stage.now)) (picked (table_rows entity tables.now) places.now)) }
 {
-    let views = views_at(alloc, tables, entity, places, walk)?;
+    let narrow = reads_narrow(entity, steps);
+    let rows = rows_at(alloc, tables, entity, narrow, places, walk)?;
     let facts = fact_rows(alloc, patterns.keys(), Lines::new(alloc))?;
     let scene = Scene {
         alloc,
@@ -219,7 +302,7 @@ fn read_block<L: Ledger, P: Patterns>(
         facts: &facts,
     };
     choose_tried(
-        &scene, patterns, compiled, found, stage, steps, views, chosen,
+        &scene, patterns, compiled, found, stage, steps, entity, narrow, rows, chosen,
     )
 }
 
@@ -246,9 +329,9 @@ fn block_of(places: &[usize], at: usize, end: usize) -> &[usize]
 
 /// The chosen rows among those at the places, read block by block. No field of the filter names a fact.
 #[tactic(auto, using(query_rows::proofs::TryLaws::tried_nothing, query_rows::proofs::TryLaws::tried_then))]
-pub(crate) fn read_blocks<L: Ledger, P: Patterns>(
+pub(crate) fn read_blocks<'t, L: Ledger, P: Patterns>(
     alloc: Global,
-    tables: &Tables,
+    tables: &'t Tables,
     patterns: &mut P,
     compiled: &[P::Compiled],
     found: &[Known],
@@ -257,7 +340,7 @@ pub(crate) fn read_blocks<L: Ledger, P: Patterns>(
     entity: Entity,
     places: &[usize],
     walk: &mut Steps<L>,
-) -> Result<Lines, AllocError>
+) -> Result<KeptRows<'t>, AllocError>
     requires steps { steps.now ≡ stage.now.steps }
     requires names { steps_facts stage.now.steps ≡ [] }
     requires entity { stage.now.entity ≡ Some entity }
@@ -270,7 +353,7 @@ pub(crate) fn read_blocks<L: Ledger, P: Patterns>(
     ensures value { IfOk result (λ rows. rows ≡ filter (is_chosen (world_of tables.now (P.says patterns.old))
         (map (λ c. P.made_from c) compiled.now) found.now (stage_of stage.now)) (picked (table_rows entity tables.now) places.now)) }
 {
-    let mut chosen = Lines::new(alloc);
+    let mut chosen = KeptRows::new(alloc);
     let mut at = 0;
     'reading: while at < places.len() {
         let end = block_end(at, places.len());

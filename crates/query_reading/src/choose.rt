@@ -1,5 +1,5 @@
 //! Finds the rows that a stage chooses.
-ghost use Rattle.std.specs.Prelude.{◌≡◌, ◌++◌, ◌∷◌, ◌+◌, ◌*◌, ◌<◌, ◌≤◌, [], ℕ, List, map, length, IfOk, OnOk, Some, None, filter, true};
+ghost use Rattle.std.specs.Prelude.{◌≡◌, ◌++◌, ◌∷◌, ◌+◌, ◌*◌, ◌<◌, ◌≤◌, [], ℕ, List, map, length, IfOk, OnOk, Some, None, filter, true, false};
 ghost use Rattle.std.specs.List.{AllByRecursion};
 ghost use Rattle.query_plan.specs.Plan.{chosen_rows, is_chosen};
 ghost use Rattle.query_plan.specs.Made.{stage_of};
@@ -13,21 +13,22 @@ ghost use Rattle.query_rows.specs.Scenes.{world};
 ghost use Rattle.query_rows.specs.Tables.{world_of};
 ghost use Rattle.query_reading.specs.Fetched.{picked, slice_one};
 ghost use Rattle.query_reading.specs.Joins.{Joins, step_join};
+ghost use Rattle.query_reading.specs.Narrow.{steps_make};
 ghost use Rattle.query_reading.specs.Stopping.{first_of};
 
 use crate::blocks::read_blocks;
 use crate::facts::facts_for;
 use crate::joins::Nodes;
+use crate::narrow::reads_narrow;
 use crate::reading::{places_for, reads_front};
 use crate::stopping::suffices;
 use fleet_tables::fleet_rows::Entity;
 use fleet_tables::{Steps, Tables};
-use paging_text::Lines;
 use pattern_port::Patterns;
 use query_plan::Stage;
 use query_reach::Pins;
 use query_rows::{Known, Ready, Scene, holds, is_seen};
-use row_views::{View, view_at};
+use row_views::{KeptRow, KeptRows, View, kept_row};
 use same_text::json_tree::Text;
 use std::alloc::{AllocError, Global};
 use std::sync::ledger::Ledger;
@@ -56,18 +57,49 @@ fn is_chosen<P: Patterns>(
     }
 }
 
-// Makes the row and appends it, if the stage chooses it.
-fn choose<P: Patterns>(
+// The same of a row that is seen narrow or whole.
+#[tactic(auto, using(query_rows::proofs::TryLaws::tried_nothing))]
+fn is_row_chosen<P: Patterns>(
     scene: &Scene,
     patterns: &mut P,
     compiled: &[P::Compiled],
     found: &[Known],
     stage: &Stage,
     steps: &[Ready],
-    row: View<'_>,
-    chosen: &mut Lines,
+    entity: Entity,
+    narrow: bool,
+    row: &KeptRow<'_>,
+) -> Result<bool, AllocError>
+    requires steps { steps.now ≡ stage.now.steps }
+    requires entity { stage.now.entity ≡ Some entity }
+    requires narrow { narrow ≡ true → steps_make entity stage.now.steps ≡ false }
+    ensures same { (p t : List ℕ) → P.says patterns.new p t ≡ P.says patterns.old p t }
+    ensures calm { P.refusals patterns.new ≡ P.refusals patterns.old }
+    ensures silent { P.asked patterns.new ≡ P.asked patterns.old }
+    ensures tried { HasTried (P.course patterns.old) (P.course patterns.new) }
+    ensures value { IfOk result (λ b. b ≡ is_chosen (world scene.now (P.says patterns.old)) (map (λ c. P.made_from c) compiled.now) found.now
+        (stage_of stage.now) row.now) }
+{
+    let view = row.view(scene.alloc, entity, narrow)?;
+    is_chosen(scene, patterns, compiled, found, stage, steps, &view)
+}
+
+// Appends the row, if the stage chooses it.
+fn choose<'t, P: Patterns>(
+    scene: &Scene,
+    patterns: &mut P,
+    compiled: &[P::Compiled],
+    found: &[Known],
+    stage: &Stage,
+    steps: &[Ready],
+    entity: Entity,
+    narrow: bool,
+    row: KeptRow<'t>,
+    chosen: &mut KeptRows<'t>,
 ) -> Result<(), AllocError>
-    requires { steps.now ≡ stage.now.steps }
+    requires steps { steps.now ≡ stage.now.steps }
+    requires entity { stage.now.entity ≡ Some entity }
+    requires narrow { narrow ≡ true → steps_make entity stage.now.steps ≡ false }
     ensures same { (p t : List ℕ) → P.says patterns.new p t ≡ P.says patterns.old p t }
     ensures calm { P.refusals patterns.new ≡ P.refusals patterns.old }
     ensures silent { P.asked patterns.new ≡ P.asked patterns.old }
@@ -75,17 +107,19 @@ fn choose<P: Patterns>(
     ensures value { OnOk result (chosen.new ≡ chosen.old ++ filter
         (is_chosen (world scene.now (P.says patterns.old)) (map (λ c. P.made_from c) compiled.now) found.now (stage_of stage.now)) (row.entry ∷ [])) }
 {
-    if is_chosen(scene, patterns, compiled, found, stage, steps, &row)? {
-        chosen.push(row.into_cells(scene.alloc)?)?;
+    if is_row_chosen(
+        scene, patterns, compiled, found, stage, steps, entity, narrow, &row,
+    )? {
+        chosen.push(row)?;
     }
     Ok(())
 }
 
 // Appends the row at a place if the stage chooses it. It reads the row, and a row for each fact that the stage's filter names.
 #[tactic(auto, using(query_rows::proofs::TryLaws::tried_nothing))]
-fn choose_at<L: Ledger, P: Patterns>(
+fn choose_at<'t, L: Ledger, P: Patterns>(
     alloc: Global,
-    tables: &Tables,
+    tables: &'t Tables,
     patterns: &mut P,
     compiled: &[P::Compiled],
     found: &[Known],
@@ -94,7 +128,7 @@ fn choose_at<L: Ledger, P: Patterns>(
     names: &[&Text],
     entity: Entity,
     place: usize,
-    chosen: &mut Lines,
+    chosen: &mut KeptRows<'t>,
     walk: &mut Steps<L>,
 ) -> Result<(), AllocError>
     requires steps { steps.now ≡ stage.now.steps }
@@ -109,23 +143,26 @@ fn choose_at<L: Ledger, P: Patterns>(
     ensures value { OnOk result (chosen.new ≡ chosen.old ++ filter (is_chosen (world_of tables.now (P.says patterns.old))
         (map (λ c. P.made_from c) compiled.now) found.now (stage_of stage.now)) (slice_one (table_rows entity tables.now) place)) }
 {
-    let row = view_at(alloc, tables, entity, place, walk)?;
+    let narrow = reads_narrow(entity, steps);
+    let row = kept_row(alloc, tables, entity, place, narrow, walk)?;
     let keys = patterns.keys();
-    let facts = facts_for(alloc, keys, tables, entity, &row, names, walk)?;
+    let facts = facts_for(alloc, keys, tables, entity, narrow, &row, names, walk)?;
     let scene = Scene {
         alloc,
         tables,
         facts: &facts,
     };
-    choose(&scene, patterns, compiled, found, stage, steps, row, chosen)
+    choose(
+        &scene, patterns, compiled, found, stage, steps, entity, narrow, row, chosen,
+    )
 }
 
 // The first chosen rows among those at the places, as many as suffice. Each place is read at most once, and none behind the last
 // of these rows.
 #[tactic(auto, using(query_rows::proofs::TryLaws::tried_nothing, query_rows::proofs::TryLaws::tried_then))]
-fn read_each<L: Ledger, P: Patterns>(
+fn read_each<'t, L: Ledger, P: Patterns>(
     alloc: Global,
-    tables: &Tables,
+    tables: &'t Tables,
     patterns: &mut P,
     compiled: &[P::Compiled],
     found: &[Known],
@@ -136,7 +173,7 @@ fn read_each<L: Ledger, P: Patterns>(
     places: &[usize],
     enough: Option<usize>,
     walk: &mut Steps<L>,
-) -> Result<Lines, AllocError>
+) -> Result<KeptRows<'t>, AllocError>
     requires steps { steps.now ≡ stage.now.steps }
     requires names { texts_seen names.now ≡ steps_facts stage.now.steps }
     requires entity { stage.now.entity ≡ Some entity }
@@ -149,7 +186,7 @@ fn read_each<L: Ledger, P: Patterns>(
     ensures value { IfOk result (λ rows. rows ≡ first_of enough (filter (is_chosen (world_of tables.now (P.says patterns.old))
         (map (λ c. P.made_from c) compiled.now) found.now (stage_of stage.now)) (picked (table_rows entity tables.now) places.now))) }
 {
-    let mut chosen = Lines::new(alloc);
+    let mut chosen = KeptRows::new(alloc);
     'reading: for place in places {
         if suffices(&chosen, enough) {
             return Ok(chosen);
@@ -187,9 +224,9 @@ fn goes_by_blocks(names: &[&Text], enough: Option<usize>) -> bool
 }
 
 // The first chosen rows among those at the places, read in blocks or one by one.
-fn read_places<L: Ledger, P: Patterns>(
+fn read_places<'t, L: Ledger, P: Patterns>(
     alloc: Global,
-    tables: &Tables,
+    tables: &'t Tables,
     patterns: &mut P,
     compiled: &[P::Compiled],
     found: &[Known],
@@ -200,7 +237,7 @@ fn read_places<L: Ledger, P: Patterns>(
     places: &[usize],
     enough: Option<usize>,
     walk: &mut Steps<L>,
-) -> Result<Lines, AllocError>
+) -> Result<KeptRows<'t>, AllocError>
     requires steps { steps.now ≡ stage.now.steps }
     requires names { texts_seen names.now ≡ steps_facts stage.now.steps }
     requires entity { stage.now.entity ≡ Some entity }
@@ -227,9 +264,9 @@ fn read_places<L: Ledger, P: Patterns>(
 
 // The same among all rows, from the first one on.
 #[tactic(auto, using(query_rows::proofs::TryLaws::tried_nothing, query_rows::proofs::TryLaws::tried_then))]
-fn read_front<L: Ledger, P: Patterns>(
+fn read_front<'t, L: Ledger, P: Patterns>(
     alloc: Global,
-    tables: &Tables,
+    tables: &'t Tables,
     patterns: &mut P,
     compiled: &[P::Compiled],
     found: &[Known],
@@ -239,7 +276,7 @@ fn read_front<L: Ledger, P: Patterns>(
     entity: Entity,
     enough: Option<usize>,
     walk: &mut Steps<L>,
-) -> Result<Lines, AllocError>
+) -> Result<KeptRows<'t>, AllocError>
     requires steps { steps.now ≡ stage.now.steps }
     requires names { texts_seen names.now ≡ steps_facts stage.now.steps }
     requires entity { stage.now.entity ≡ Some entity }
@@ -251,7 +288,7 @@ fn read_front<L: Ledger, P: Patterns>(
     ensures value { IfOk result (λ rows. rows ≡ first_of enough (filter (is_chosen (world_of tables.now (P.says patterns.old))
         (map (λ c. P.made_from c) compiled.now) found.now (stage_of stage.now)) (table_rows entity tables.now))) }
 {
-    let mut chosen = Lines::new(alloc);
+    let mut chosen = KeptRows::new(alloc);
     'reading: for place in 0..tables.count(entity) {
         if suffices(&chosen, enough) {
             return Ok(chosen);
@@ -275,9 +312,9 @@ fn read_front<L: Ledger, P: Patterns>(
 }
 
 // The first chosen rows of an entity, read by the places of the rows in reach.
-fn chosen_by_places<L: Ledger, P: Patterns>(
+fn chosen_by_places<'t, L: Ledger, P: Patterns>(
     alloc: Global,
-    tables: &Tables,
+    tables: &'t Tables,
     patterns: &mut P,
     compiled: &[P::Compiled],
     found: &[Known],
@@ -289,7 +326,7 @@ fn chosen_by_places<L: Ledger, P: Patterns>(
     entity: Entity,
     enough: Option<usize>,
     walk: &mut Steps<L>,
-) -> Result<Lines, AllocError>
+) -> Result<KeptRows<'t>, AllocError>
     requires steps { steps.now ≡ stage.now.steps }
     requires names { texts_seen names.now ≡ steps_facts stage.now.steps }
     requires entity { stage.now.entity ≡ Some entity }
@@ -322,9 +359,9 @@ fn chosen_by_places<L: Ledger, P: Patterns>(
 }
 
 // The first chosen rows of an entity.
-fn chosen_of<L: Ledger, P: Patterns>(
+fn chosen_of<'t, L: Ledger, P: Patterns>(
     alloc: Global,
-    tables: &Tables,
+    tables: &'t Tables,
     patterns: &mut P,
     compiled: &[P::Compiled],
     found: &[Known],
@@ -336,7 +373,7 @@ fn chosen_of<L: Ledger, P: Patterns>(
     entity: Entity,
     enough: Option<usize>,
     walk: &mut Steps<L>,
-) -> Result<Lines, AllocError>
+) -> Result<KeptRows<'t>, AllocError>
     requires steps { steps.now ≡ stage.now.steps }
     requires names { texts_seen names.now ≡ steps_facts stage.now.steps }
     requires entity { stage.now.entity ≡ Some entity }
@@ -366,9 +403,9 @@ fn chosen_of<L: Ledger, P: Patterns>(
 /// The first of the rows that the stage chooses, as many as suffice. `found` has the rows of the levels before it. Only rows in
 /// reach of the pins are read, and of the nodes alone if the stage is limited to them.
 #[tactic(auto, using(query_rows::proofs::TryLaws::tried_nothing))]
-pub fn chosen_rows<L: Ledger, P: Patterns>(
+pub fn chosen_rows<'t, L: Ledger, P: Patterns>(
     alloc: Global,
-    tables: &Tables,
+    tables: &'t Tables,
     patterns: &mut P,
     compiled: &[P::Compiled],
     found: &[Known],
@@ -379,7 +416,7 @@ pub fn chosen_rows<L: Ledger, P: Patterns>(
     nodes: &Nodes,
     enough: Option<usize>,
     walk: &mut Steps<L>,
-) -> Result<Lines, AllocError>
+) -> Result<KeptRows<'t>, AllocError>
     requires steps { steps.now ≡ stage.now.steps }
     requires names { texts_seen names.now ≡ steps_facts stage.now.steps }
     requires implied { (row : CellsValue) → is_chosen (world_of tables.now (P.says patterns.old)) (map (λ c. P.made_from c) compiled.now) found.now
@@ -394,7 +431,7 @@ pub fn chosen_rows<L: Ledger, P: Patterns>(
         (map (λ c. P.made_from c) compiled.now) found.now (stage_of stage.now))) }
 {
     match stage.entity {
-        None => Ok(Lines::new(alloc)),
+        None => Ok(KeptRows::new(alloc)),
         Some(entity) => chosen_of(
             alloc, tables, patterns, compiled, found, stage, steps, names, pins, nodes, entity,
             enough, walk,

@@ -11,7 +11,7 @@ use fleet_tables::{Steps, Tables};
 use paging_text::Lines;
 use pattern_port::Keys;
 use query_rows::{FactRows, fact_rows, node_seen};
-use row_views::View;
+use row_views::{KeptRow, View};
 use same_text::json_tree::Text;
 use std::alloc::{AllocError, Global};
 use std::sync::ledger::Ledger;
@@ -67,8 +67,8 @@ fn read_facts<L: Ledger>(
     Ok(facts)
 }
 
-/// The rows of the facts with these names, of the node of a row.
-pub(crate) fn facts_for<L: Ledger>(
+// The rows of the facts with these names, of the node of a row that is seen.
+fn facts_seen<L: Ledger>(
     alloc: Global,
     keys: Keys,
     tables: &Tables,
@@ -84,4 +84,23 @@ pub(crate) fn facts_for<L: Ledger>(
     let node = node_seen(Some(entity), row);
     let facts = read_facts(alloc, tables, node, names, walk)?;
     fact_rows(alloc, keys, facts)
+}
+
+/// The rows of the facts with these names, of the node of a row.
+pub(crate) fn facts_for<L: Ledger>(
+    alloc: Global,
+    keys: Keys,
+    tables: &Tables,
+    entity: Entity,
+    narrow: bool,
+    row: &KeptRow<'_>,
+    names: &[&Text],
+    walk: &mut Steps<L>,
+) -> Result<FactRows, AllocError>
+    ensures cost { walk.new ≤ walk.old + length names.now }
+    ensures value { IfOk result (λ facts. facts
+        ≡ fetched (node_in (Some entity) row.now) (table_rows entities.Facts tables.now) (texts_seen names.now)) }
+{
+    let view = row.view(alloc, entity, narrow)?;
+    facts_seen(alloc, keys, tables, entity, &view, names, walk)
 }

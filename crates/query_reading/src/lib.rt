@@ -14,9 +14,9 @@
 //! order of the tables: by certname, and facts by name within a node.
 //!
 //! Costs: the places of a level's rows take 8 bytes each, unless a page is read from the first row on. Where the filter names no fact
-//! and all rows are asked for, they are read in blocks of 1,024, and each pattern is tried on the texts of a block in one call. A row
-//! is looked at by reference, and made only if it is chosen. Activity is asked only of rows that pass the filter, and in a block once for
-//! neighbouring rows of a node.
+//! and all rows are asked for, they are read in blocks of 1,024, and each pattern is tried on the texts of a block in one call. A
+//! chosen row stays where the tables keep it, if the filter reads only columns that are seen by reference; otherwise it is made when
+//! it is read. Activity is asked only of rows that pass the filter, and in a block once for neighbouring rows of a node.
 #![tactic(auto)]
 
 mod activity;
@@ -24,6 +24,7 @@ mod blocks;
 mod choose;
 mod facts;
 mod joins;
+mod narrow;
 mod reading;
 mod stopping;
 

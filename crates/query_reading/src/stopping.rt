@@ -18,18 +18,18 @@ ghost use Rattle.query_rows.specs.Tables.{world_of};
 
 use fleet_tables::Tables;
 use fleet_tables::fleet_rows::Entity;
-use paging_text::Lines;
 use query_plan::ast_tree::{makes_groups, shown_list};
 use query_plan::query_spec::{Order, Paging};
 use query_plan::{Shape, Stage};
+use row_views::KeptRows;
 
 /// Whether the chosen rows suffice.
-pub(crate) fn suffices(chosen: &Lines, enough: Option<usize>) -> bool
+pub(crate) fn suffices(chosen: &KeptRows<'_>, enough: Option<usize>) -> bool
     ensures { result ≡ suffices enough (length chosen.now) }
 {
     match enough {
         None => false,
-        Some(enough) => !(chosen.as_slice().len() < enough),
+        Some(enough) => !(chosen.len() < enough),
     }
 }
 

@@ -5,7 +5,7 @@ ghost use Rattle.std.specs.Option.{option_map, option_map_or};
 ghost use Rattle.std.specs.Ordering.{int_cmp, int_eq, is_some_and};
 ghost use Rattle.same_text.specs.text_spec.Order.{same};
 ghost use Rattle.same_text.specs.json_tree.Tree.{json_of, jsons};
-ghost use Rattle.same_text.specs.text_spec.Json.{string};
+ghost use Rattle.same_text.specs.text_spec.Json.{boolean, string};
 ghost use Rattle.fleet_tables.specs.fleet_rows.Cell.{cell_of, plain, stamp};
 ghost use Rattle.query_plan.specs.means_spec.Cells.{scalar_value, moment_of, equals, order_of, meets, compares, has_tag, has_state, same_cell};
 ghost use Rattle.query_plan.specs.means_spec.Cells.{same_cells, is_null_cell};
@@ -52,6 +52,15 @@ fn is_value(json: &Json, literal: &Scalar) -> bool
     }
 }
 
+fn is_flag(flag: bool, literal: &Scalar) -> bool
+    ensures { result ≡ same (boolean flag) (scalar_value literal.now) }
+{
+    match literal {
+        Scalar::Bool(other) => flag == *other,
+        _ => false,
+    }
+}
+
 fn is_text(text: &Text, literal: &Scalar) -> bool
     ensures { result ≡ same (string text.now) (scalar_value literal.now) }
 {
@@ -70,6 +79,8 @@ pub(crate) fn equals(seen: &Seen<'_>, literal: &Scalar) -> bool
         Seen::Cell(Cell::Plain(json)) => is_value(json, literal),
         Seen::Value(json) => is_value(json, literal),
         Seen::Text(text) => is_text(text, literal),
+        Seen::Flag(flag) => is_flag(*flag, literal),
+        Seen::Stamp(nanos) => is_moment(Moment::from_nanosecond(*nanos), literal),
         Seen::Null => false,
     }
 }
@@ -100,6 +111,8 @@ fn order_of(seen: &Seen<'_>, literal: &Scalar) -> Option<Ordering>
         Seen::Cell(Cell::Plain(json)) => value_order(json, literal),
         Seen::Value(json) => value_order(json, literal),
         Seen::Text(_) => None,
+        Seen::Flag(_) => None,
+        Seen::Stamp(nanos) => moment_order(Moment::from_nanosecond(*nanos), literal),
         Seen::Null => None,
     }
 }
@@ -224,6 +237,15 @@ fn same_as_text(text: &Text, cell: &Cell) -> bool
     }
 }
 
+fn same_as_flag(flag: bool, cell: &Cell) -> bool
+    ensures { result ≡ same_cell (plain (boolean flag)) (cell_of cell.now) }
+{
+    match cell {
+        Cell::Plain(Json::Bool(other)) => flag == *other,
+        _ => false,
+    }
+}
+
 /// Whether the value is the same as a cell.
 pub fn same_cell(seen: &Seen<'_>, cell: &Cell) -> bool
     ensures { result ≡ same_cell (seen_value seen.now) (cell_of cell.now) }
@@ -233,6 +255,8 @@ pub fn same_cell(seen: &Seen<'_>, cell: &Cell) -> bool
         Seen::Cell(Cell::Plain(json)) => same_value(json, cell),
         Seen::Value(json) => same_value(json, cell),
         Seen::Text(text) => same_as_text(text, cell),
+        Seen::Flag(flag) => same_as_flag(*flag, cell),
+        Seen::Stamp(nanos) => same_moment(Moment::from_nanosecond(*nanos), cell),
         Seen::Null => match cell {
             Cell::Plain(Json::Null) => true,
             _ => false,

@@ -7,7 +7,8 @@
 //! Numbers are found by a hash of the text. The caller passes its keys: if they are random, nobody can choose texts that collide.
 ghost use Rattle.std.specs.Prelude.{◌≡◌, ◌++◌, ℕ, List, IfOk, OnOk, Some};
 ghost use Rattle.std.specs.Fmt.{signed_decimal};
-ghost use Rattle.fleet_tables.specs.fleet_rows.Cell.{cells_of};
+ghost use Rattle.fleet_tables.specs.fleet_rows.Cell.{cells_of, plain};
+ghost use Rattle.same_text.specs.text_spec.Json.{boolean};
 ghost use Rattle.query_plan.specs.means_spec.Groups.{key_of};
 ghost use Rattle.paging_text.specs.Shown.{cell_or_null};
 ghost use Rattle.row_views.specs.Seen.{seen_value};
@@ -54,6 +55,16 @@ pub(crate) fn append_cell(
     }
 }
 
+fn append_flag(out: &mut Vec<u8>, flag: bool) -> Result<(), AllocError>
+    ensures { OnOk result (out.new.items ≡ out.old.items ++ cell_text (plain (boolean flag))) }
+{
+    if flag {
+        out.extend_from_slice(b"true")
+    } else {
+        out.extend_from_slice(b"false")
+    }
+}
+
 /// Appends the text of the value that a field names.
 pub(crate) fn append_seen(
     alloc: Global,
@@ -66,6 +77,8 @@ pub(crate) fn append_seen(
         Seen::Cell(cell) => append_cell(alloc, out, Some(*cell)),
         Seen::Value(json) => append_same(alloc, out, json),
         Seen::Text(text) => append_quoted(out, text.as_str()),
+        Seen::Flag(flag) => append_flag(out, *flag),
+        Seen::Stamp(nanos) => append_moment(out, Moment::from_nanosecond(*nanos)),
         Seen::Null => out.extend_from_slice(b"null"),
     }
 }

@@ -1,22 +1,26 @@
 //! Refers to the values that a row shows.
 ghost use Rattle.std.specs.Prelude.{◌≡◌, IfOk, map};
-ghost use Rattle.fleet_tables.specs.fleet_rows.Cell.{cell_of, cells_of};
+ghost use Rattle.fleet_tables.specs.fleet_rows.Cell.{cell_of, cells_of, plain};
 ghost use Rattle.fleet_tables.specs.fleet_rows.Columns.{column_name};
 ghost use Rattle.paging_text.specs.means_spec.Cells.{cell_under};
 ghost use Rattle.paging_text.specs.Shown.{cell_or_null};
-ghost use Rattle.paging_text.specs.means_spec.table_spec.Cells.{text_cell_or_null};
+ghost use Rattle.paging_text.specs.means_spec.table_spec.Cells.{moment_or_null, text_cell_or_null};
+ghost use Rattle.paging_text.specs.means_spec.table_spec.history_spec.Report.{bool_or_null};
 ghost use Rattle.row_views.specs.Seen.{seen_value};
 
 use fleet_tables::fleet_rows::{Cell, Cells, Column};
+use fleet_tables::stamp_time::Moment;
 use same_text::json_tree::{Json, Text};
 use std::alloc::{AllocError, Global};
 
-/// A cell of a row, a value or a text that is kept, or null.
+/// A cell of a row, a value or a text that is kept, a flag, a moment in nanoseconds since the epoch, or null.
 #[derive(Clone, Copy)]
 pub enum Seen<'a> {
     Cell(&'a Cell),
     Value(&'a Json),
     Text(&'a Text),
+    Flag(bool),
+    Stamp(i128),
     Null,
 }
 
@@ -36,6 +40,26 @@ pub(crate) fn text_or_null(text: &Option<Text>) -> Seen<'_>
 {
     match text {
         Some(text) => Seen::Text(text),
+        None => Seen::Null,
+    }
+}
+
+/// The flag, or null if there is none.
+pub(crate) fn flag_or_null<'a>(flag: Option<bool>) -> Seen<'a>
+    ensures { seen_value result ≡ plain (bool_or_null flag) }
+{
+    match flag {
+        Some(flag) => Seen::Flag(flag),
+        None => Seen::Null,
+    }
+}
+
+/// The moment, or null if there is none.
+pub(crate) fn moment_or_null<'a>(moment: Option<Moment>) -> Seen<'a>
+    ensures { seen_value result ≡ moment_or_null moment }
+{
+    match moment {
+        Some(moment) => Seen::Stamp(moment.as_nanosecond()),
         None => Seen::Null,
     }
 }
@@ -67,6 +91,8 @@ pub fn copied(alloc: Global, seen: &Seen<'_>) -> Result<Cell, AllocError>
         Seen::Cell(cell) => cell.copy(alloc),
         Seen::Value(json) => Ok(Cell::Plain(json.copy(alloc)?)),
         Seen::Text(text) => Ok(Cell::Plain(Json::Text(Text::from_str(alloc, text.as_str())?))),
+        Seen::Flag(flag) => Ok(Cell::Plain(Json::Bool(*flag))),
+        Seen::Stamp(nanos) => Ok(Cell::Stamp(Moment::from_nanosecond(*nanos))),
         Seen::Null => Ok(Cell::Plain(Json::Null)),
     }
 }

@@ -1,48 +1,52 @@
-//! Reads rows of the tables by reference.
-ghost use Rattle.std.specs.Prelude.{◌≡◌, ◌+◌, ◌<◌, ℤ, Option, length, slice_get, Some, IfOk};
-ghost use Rattle.fleet_tables.specs.fleet_rows.declared.change.Change.TheVariants as changes;
-ghost use Rattle.fleet_tables.specs.fleet_rows.declared.row.Entity.TheVariants as entities;
-ghost use Rattle.fleet_tables.specs.fleet_rows.declared.settings.Ttls.{Ttls};
-ghost use Rattle.fleet_tables.specs.table_machine.Rows.{node_rows, table_rows};
-ghost use Rattle.kept_nodes.specs.Counted.{counts, count_of};
-ghost use Rattle.kept_nodes.specs.Kept.{IsFactOrder, IsNode};
-ghost use Rattle.kept_nodes.specs.Seen.{node_seen};
+//! Shows rows of the tables: a column is seen without a copy.
+ghost use Rattle.std.specs.Prelude.{◌≡◌, IfOk, map};
 ghost use Rattle.paging_text.specs.means_spec.Cells.{cell_in};
-ghost use Rattle.paging_text.specs.means_spec.table_spec.Rows.{fact_rows};
-ghost use Rattle.row_views.specs.Held.{fact_values};
+ghost use Rattle.row_views.specs.Held.{fact_values, resource_values, report_values};
 ghost use Rattle.row_views.specs.Seen.{seen_value};
 
 use crate::cells::cell_in;
-use crate::seen::{Seen, all_copied, copied_cells, seen_among, seen_of, text_or_null};
-use fleet_tables::fleet_rows::{Cells, Entity, FactsChange};
-use fleet_tables::{Steps, Tables};
-use kept_nodes::Node;
-use packed_shown::PackedOrder;
+use crate::seen::{
+    Seen, all_copied, copied_cells, flag_or_null, moment_or_null, seen_among, seen_of, text_or_null,
+};
+use fleet_tables::fleet_rows::{CatalogChange, Cell, Cells, Entity, Resource};
+use kept_nodes::HeldReport;
 use same_text::json_tree::{Json, Text};
 use std::alloc::{AllocError, Global};
 use std::marker::Model;
-use std::sync::ledger::Ledger;
 
-/// A row of the tables. Contracts see the list of its cells.
+/// A row as it is seen: whole, or with null in the columns that aren't seen by reference. Contracts see the list of its cells.
 pub struct View<'t> {
-    held: Held<'t>,
+    pub(crate) held: Held<'t>,
 }
 
 #[derive(Drop)]
-enum Held<'t> {
+pub(crate) enum Held<'t> {
     /// A fact where the tables keep it.
     Fact(FactRow<'t>),
-    /// A row that was made.
+    /// What is kept of a resource in columns.
+    Resource(ResourceRow<'t>),
+    /// What is kept of a report in columns.
+    Report(&'t HeldReport),
+    /// The cells of a row that was made.
+    Lent(&'t [Cell]),
+    /// A row that was made for the view.
     Made(Cells),
 }
 
-// The columns of a fact, in order.
+/// The columns of a fact, in order.
 #[derive(Clone, Copy)]
-struct FactRow<'t> {
-    certname: &'t Text,
-    environment: &'t Option<Text>,
-    name: &'t Text,
-    value: &'t Json,
+pub(crate) struct FactRow<'t> {
+    pub(crate) certname: &'t Text,
+    pub(crate) environment: &'t Option<Text>,
+    pub(crate) name: &'t Text,
+    pub(crate) value: &'t Json,
+}
+
+/// A resource and its catalog.
+#[derive(Clone, Copy)]
+pub(crate) struct ResourceRow<'t> {
+    pub(crate) change: &'t CatalogChange,
+    pub(crate) resource: &'t Resource,
 }
 
 impl<'t> Model for View<'t> {
@@ -68,135 +72,79 @@ impl<'t> Drop for View<'t> {
     }
 }
 
-// ---- facts
+// ---- what is seen by reference
 
-// The value of a fact in the column with this name.
-fn seen_in_fact<'a>(fact: &FactRow<'a>, entity: Option<Entity>, name: &str) -> Seen<'a>
-    ensures { seen_value result ≡ cell_in entity name.now (fact_values fact.now) }
+fn fact_seen<'a>(fact: &FactRow<'a>) -> [Seen<'a>; 4]
+    ensures { map seen_value result ≡ fact_values fact.now }
+{
+    [
+        Seen::Text(fact.certname),
+        text_or_null(fact.environment),
+        Seen::Text(fact.name),
+        Seen::Value(fact.value),
+    ]
+}
+
+fn resource_seen<'a>(row: &ResourceRow<'a>) -> [Seen<'a>; 10]
+    ensures { map seen_value result ≡ resource_values row.now }
+{
+    let change = row.change;
+    let resource = row.resource;
+    [
+        Seen::Text(&change.certname),
+        text_or_null(&change.environment),
+        Seen::Flag(resource.exported),
+        text_or_null(&resource.file),
+        Seen::Null,
+        Seen::Null,
+        Seen::Null,
+        Seen::Null,
+        Seen::Text(&resource.title),
+        Seen::Text(&resource.rtype),
+    ]
+}
+
+fn report_seen(held: &HeldReport) -> [Seen<'_>; 17]
+    ensures { map seen_value result ≡ report_values held.now }
+{
+    let report = held.report();
+    let change = &report.change;
+    [
+        Seen::Text(change.certname()),
+        text_or_null(change.configuration_version()),
+        moment_or_null(change.end_time()),
+        text_or_null(change.environment()),
+        Seen::Null,
+        Seen::Null,
+        Seen::Null,
+        flag_or_null(change.noop()),
+        text_or_null(change.producer()),
+        Seen::Stamp(change.stamp().as_nanosecond()),
+        text_or_null(change.puppet_version()),
+        moment_or_null(report.received),
+        Seen::Null,
+        Seen::Null,
+        moment_or_null(change.start_time()),
+        text_or_null(change.status()),
+        text_or_null(change.transaction_uuid()),
+    ]
+}
+
+// The value in the column with this name of an entity whose rows show these values.
+fn seen_in<'a>(entity: Option<Entity>, name: &str, row: &[Seen<'a>]) -> Seen<'a>
+    ensures { seen_value result ≡ cell_in entity name.now (map seen_value row.now) }
 {
     match entity {
         None => Seen::Null,
-        Some(entity) => seen_among(
-            entity.columns(),
-            name,
-            &[
-                Seen::Text(fact.certname),
-                text_or_null(fact.environment),
-                Seen::Text(fact.name),
-                Seen::Value(fact.value),
-            ],
-        ),
+        Some(entity) => seen_among(entity.columns(), name, row),
     }
 }
 
-fn cells_of_fact(alloc: Global, fact: &FactRow<'_>) -> Result<Cells, AllocError>
+/// The cells of a fact, copied.
+pub(crate) fn cells_of_fact(alloc: Global, fact: &FactRow<'_>) -> Result<Cells, AllocError>
     ensures { IfOk result (λ cells. cells ≡ fact_values fact.now) }
 {
-    all_copied(
-        alloc,
-        &[
-            Seen::Text(fact.certname),
-            text_or_null(fact.environment),
-            Seen::Text(fact.name),
-            Seen::Value(fact.value),
-        ],
-    )
-}
-
-// Row j of the facts. `order` has their indices sorted by name.
-fn fact_in<'t>(change: &'t FactsChange, order: &PackedOrder, j: usize) -> View<'t>
-    requires order { IsFactOrder order.now change.now }
-    requires within { j < length change.now.values }
-    ensures { slice_get (fact_rows (changes.Facts change.now)) j ≡ Some result }
-{
-    let (name, value) = change.values.pair(order.at(j));
-    View {
-        held: Held::Fact(FactRow {
-            certname: &change.certname,
-            environment: &change.environment,
-            name,
-            value,
-        }),
-    }
-}
-
-// Row j of the node's facts. It is made if their order isn't known.
-fn fact_of<'t>(alloc: Global, node: &'t Node, j: usize) -> Result<View<'t>, AllocError>
-    requires kept { IsNode node.now }
-    requires within { j < count_of entities.Facts (counts node.now) }
-    ensures { IfOk result (λ view. (ttls : Ttls) (expiry : Option ℤ)
-        → slice_get (node_rows entities.Facts ttls expiry (node_seen node.now)) j ≡ Some view) }
-{
-    match &node.facts {
-        Some(kept) => match &kept.shown.order {
-            Some(order) => Ok(fact_in(&kept.change, order, j)),
-            None => made_fact(alloc, node, j),
-        },
-        None => unreachable!(),
-    }
-}
-
-fn made_fact<'t>(alloc: Global, node: &Node, j: usize) -> Result<View<'t>, AllocError>
-    requires kept { IsNode node.now }
-    requires within { j < count_of entities.Facts (counts node.now) }
-    ensures { IfOk result (λ view. (ttls : Ttls) (expiry : Option ℤ)
-        → slice_get (node_rows entities.Facts ttls expiry (node_seen node.now)) j ≡ Some view) }
-{
-    let row = node.row(alloc, Entity::Facts, j)?;
-    Ok(View {
-        held: Held::Made(row.cells),
-    })
-}
-
-fn fact_at<'t, L: Ledger>(
-    alloc: Global,
-    tables: &'t Tables,
-    i: usize,
-    steps: &mut Steps<L>,
-) -> Result<View<'t>, AllocError>
-    requires { i < length (table_rows entities.Facts tables.now) }
-    ensures step { steps.new ≡ steps.old + 1 }
-    ensures row { IfOk result (λ view. slice_get (table_rows entities.Facts tables.now) i ≡ Some view) }
-{
-    let (node, j) = tables.node_at(Entity::Facts, i, steps);
-    fact_of(alloc, node, j)
-}
-
-// ---- rows of any entity
-
-fn made_at<'t, L: Ledger>(
-    tables: &Tables,
-    entity: Entity,
-    i: usize,
-    steps: &mut Steps<L>,
-) -> Result<View<'t>, AllocError>
-    requires { i < length (table_rows entity tables.now) }
-    ensures step { steps.new ≡ steps.old + 1 }
-    ensures row { IfOk result (λ view. slice_get (table_rows entity tables.now) i ≡ Some view) }
-{
-    let row = tables.row(entity, i, steps)?;
-    Ok(View {
-        held: Held::Made(row.cells),
-    })
-}
-
-/// Row i of an entity, in the order of its keys. It counts as one step. A fact takes no memory if the order of its node's facts is
-/// known.
-pub fn view_at<'t, L: Ledger>(
-    alloc: Global,
-    tables: &'t Tables,
-    entity: Entity,
-    i: usize,
-    steps: &mut Steps<L>,
-) -> Result<View<'t>, AllocError>
-    requires { i < length (table_rows entity tables.now) }
-    ensures step { steps.new ≡ steps.old + 1 }
-    ensures row { IfOk result (λ view. slice_get (table_rows entity tables.now) i ≡ Some view) }
-{
-    match entity {
-        Entity::Facts => fact_at(alloc, tables, i, steps),
-        _ => made_at(tables, entity, i, steps),
-    }
+    all_copied(alloc, &fact_seen(fact))
 }
 
 impl<'t> View<'t> {
@@ -205,28 +153,24 @@ impl<'t> View<'t> {
         ensures { seen_value result ≡ cell_in entity name.now self.now }
     {
         match &self.held {
-            Held::Fact(fact) => seen_in_fact(fact, entity, name),
+            Held::Fact(fact) => seen_in(entity, name, &fact_seen(fact)),
+            Held::Resource(row) => seen_in(entity, name, &resource_seen(row)),
+            Held::Report(report) => seen_in(entity, name, &report_seen(report)),
+            Held::Lent(cells) => seen_of(cell_in(entity, name, cells)),
             Held::Made(cells) => seen_of(cell_in(entity, name, cells.as_slice())),
         }
     }
 
-    /// A copy of the cells of the row.
-    pub fn cells(&self, alloc: Global) -> Result<Cells, AllocError>
-        ensures { IfOk result (λ cells. cells ≡ self.now) }
-    {
-        match &self.held {
-            Held::Fact(fact) => cells_of_fact(alloc, fact),
-            Held::Made(cells) => copied_cells(alloc, cells.as_slice()),
-        }
-    }
-
-    /// The cells of the row. Those of a fact are copied.
+    /// The cells of the view. Those that aren't the view's own are copied.
     pub fn into_cells(self, alloc: Global) -> Result<Cells, AllocError>
         ensures { IfOk result (λ cells. cells ≡ self.entry) }
     {
         let View { held } = self;
         match held {
             Held::Fact(fact) => cells_of_fact(alloc, &fact),
+            Held::Resource(row) => all_copied(alloc, &resource_seen(&row)),
+            Held::Report(report) => all_copied(alloc, &report_seen(report)),
+            Held::Lent(cells) => copied_cells(alloc, cells),
             Held::Made(cells) => Ok(cells),
         }
     }

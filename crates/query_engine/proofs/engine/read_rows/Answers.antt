@@ -1,4 +1,4 @@
-use Rattle.std.proofs.Common.{◌∙◌, ℕ, List, Bool, map, ap, subst}
+use Rattle.std.proofs.Common.{◌∙◌, ℕ, List, Bool, map, ap, sym, subst}
 use Rattle.std.proofs.lemmas.Result.{IfOk-weaker}
 use Rattle.query_plan.specs.Made.{shape_of, stage_of}
 use Rattle.query_plan.specs.Plan.{is_chosen}
@@ -7,6 +7,7 @@ use Rattle.query_reach.specs.Seen.{texts_seen}
 use Rattle.query_rows.specs.Tables.{world_of}
 use Rattle.query_reading.specs.Joins.{Joins, step_join}
 use Rattle.query_reading.proofs.RowReads.{pins_imply, stage_cost}
+use Rattle.query_engine.specs.Answers.{IsStageAnswered}
 use Rattle.query_engine.proofs.Stages.{stage_answered, stage_whole}
 use Rattle.query_engine.proofs.engine.read_rows.Goals as goal
 
@@ -43,12 +44,17 @@ pub returns-clause-value : goal.returns-clause-value
 returns-clause-value g c =
     let ps : List (List ℕ) = map (λ x. g.P.Patterns.made_from x) c.args.compiled.now in
     let says : List ℕ → List ℕ → Bool = g.P.Patterns.says c.args.patterns.now in
-    IfOk-weaker c.answer_of.result _ _
+    IfOk-weaker c.answer_from.result _ _
     (stage_answered (world_of c.args.tables.now says) ps c.args.found.now (stage_of c.args.stage.now) c.enough_for-enough.result c.in_ok-rows.rows c.in_ok-rows.ensures.value (c.enough_for-enough.ensures says (is_chosen (world_of c.args.tables.now says) ps c.args.found.now (stage_of c.args.stage.now))) _ _ _ (ap shape_of c.in-Answers.is))
-    c.answer_of.ensures
+    c.answer_from.ensures
 
 pub returns-in-Whole-clause-value : goal.returns-in-Whole-clause-value
 returns-in-Whole-clause-value g c =
     let ps : List (List ℕ) = map (λ x. g.P.Patterns.made_from x) c.args.compiled.now in
     let says : List ℕ → List ℕ → Bool = g.P.Patterns.says c.args.patterns.now in
-    stage_whole (world_of c.args.tables.now says) ps c.args.found.now (stage_of c.args.stage.now) c.enough_for-enough.result c.in_ok-rows.rows c.in_ok-rows.ensures.value (c.enough_for-enough.ensures says (is_chosen (world_of c.args.tables.now says) ps c.args.found.now (stage_of c.args.stage.now))) (ap shape_of c.in-Whole.is)
+    let w = world_of c.args.tables.now says in
+    let s = stage_of c.args.stage.now in
+    IfOk-weaker c.whole_from.result _ _
+    (λ x h. subst (IsStageAnswered w ps c.args.found.now s) (sym h)
+    (stage_whole w ps c.args.found.now s c.enough_for-enough.result c.in_ok-rows.rows c.in_ok-rows.ensures.value (c.enough_for-enough.ensures says (is_chosen w ps c.args.found.now s)) (ap shape_of c.in-Whole.is)))
+    c.whole_from.ensures

@@ -1,9 +1,12 @@
 use Rattle.std.proofs.Common.{◌≡◌, ◌∙◌, ◌++◌, ◌∷◌, ℕ, List, Bool, map, length, drop, sym, ap, subst, Some, arith}
 use Rattle.std.specs.Prelude.{filter, slice_get}
+use Rattle.std.specs.Option.{option_map}
+use Rattle.std.proofs.lemmas.Option.{slice_get-map}
 use Rattle.std.specs.Vec.Iter.{into_iter_items}
 use Rattle.query_plan.specs.Plan.{is_chosen}
 use Rattle.query_plan.specs.Made.{stage_of}
 use Rattle.query_plan.specs.table_spec.Rows.{Cells}
+use Rattle.row_views.specs.Narrow.{shown_as}
 use Rattle.query_rows.specs.Columns.{AreGiven}
 use Rattle.query_rows.specs.Scenes.{world}
 use Rattle.query_rows.proofs.BlockLaws.{given_from}
@@ -23,8 +26,10 @@ choose_given-requires-clause-given g c =
     let left : List Cells = into_iter_items c.next.new.self in
     let next : into_iter_items c.choosing.row-iterator ≡ row ∷ left = c.in-Some.ensures.steps.0 in
     let there : slice_get rows i ≡ Some row = there_at rows i row left (sym c.choosing.invariant.left ∙ next) in
-    subst (λ (m : List ℕ → List ℕ → Bool). AreGiven c.args.scene.now m ps c.args.stage.now.entity row c.args.steps.now c.args.columns.now i) (sym alike)
-    (given_from c.args.scene.now says ps c.args.stage.now.entity rows i row there c.args.steps.now c.args.columns.now c.requires.columns)
+    let shown : Cells → Cells = shown_as c.args.narrow c.args.entity in
+    let seen : slice_get (map shown rows) i ≡ Some (shown row) = slice_get-map shown rows i ∙ ap (option_map shown) there in
+    subst (λ (m : List ℕ → List ℕ → Bool). AreGiven c.args.scene.now m ps c.args.stage.now.entity (shown row) c.args.steps.now c.args.columns.now i) (sym alike)
+    (given_from c.args.scene.now says ps c.args.stage.now.entity (map shown rows) i (shown row) seen c.args.steps.now c.args.columns.now c.requires.columns)
 
 pub returns-in_err-choose_given-clause-tried : goal.returns-in_err-choose_given-clause-tried
 returns-in_err-choose_given-clause-tried g c = tried_then _ _ _ c.choosing.invariant.tried c.choose_given.ensures.tried

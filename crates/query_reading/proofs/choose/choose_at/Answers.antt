@@ -1,9 +1,13 @@
-use Rattle.std.proofs.Common.{◌∙◌, ◌++◌, ℕ, List, Bool, map, ap}
+use Rattle.std.proofs.Common.{◌∙◌, ◌++◌, ℕ, List, Bool, map, ap, sym}
 use Rattle.std.proofs.lemmas.Result.{IfOk-weaker}
 use Rattle.query_plan.specs.Made.{stage_of}
 use Rattle.query_reach.specs.Seen.{texts_seen}
+use Rattle.query_reading.specs.Narrow.{steps_make}
 use Rattle.query_reading.proofs.RowReads.{chosen_at}
 use Rattle.query_reading.proofs.choose.choose_at.Goals as goal
+
+pub choose-requires-clause-narrow : goal.choose-requires-clause-narrow
+choose-requires-clause-narrow g c = λ h. ap (steps_make c.args.entity) (sym c.requires.steps) ∙ c.reads_narrow-narrow.ensures h
 
 pub returns-clause-value : goal.returns-clause-value
 returns-clause-value g c =

@@ -1,6 +1,6 @@
 use Rattle.std.proofs.Common.{◌∙◌}
 use Rattle.std.proofs.lemmas.Result.{IfOk-weaker}
-use Rattle.row_views.proofs.view.fact_at.Goals as goal
+use Rattle.row_views.proofs.row.fact_at.Goals as goal
 
 pub returns-clause-row : goal.returns-clause-row
 returns-clause-row g c =

@@ -7,7 +7,7 @@ use Rattle.fleet_tables.specs.fleet_rows.declared.row.Row.{Row}
 use Rattle.kept_nodes.proofs.RowCounts.{fact_order_length}
 use Rattle.kept_nodes.proofs.RowPlaces.{fact_inside, fact_row_is}
 use Rattle.row_cells.specs.Rows.{member_cells}
-use Rattle.row_views.proofs.view.fact_in.Goals as goal
+use Rattle.row_views.proofs.row.fact_in.Goals as goal
 
 pub at-requires : goal.at-requires
 at-requires c = omega (arith, c.requires.within, fact_order_length c.args.order.now c.args.change.now c.requires.order)
