@@ -21,7 +21,8 @@
 //!   `stands`). If the pattern reader tells what it read, it is the first pattern refused (`asked`, `course`).
 //! - The pattern reader counts BadPattern (`cause`). What patterns match stays (`same`). `bound` holds of each answer.
 //!
-//! Costs: rows are copied one by one. An array of more than eight literals is indexed.
+//! Costs: chosen rows are made one by one. A row that is kept by reference is made whole only if the answer reads a column that isn't
+//! seen by reference, as a hash; otherwise what is seen of it is copied. An array of more than eight literals is indexed.
 #![tactic(auto)]
 
 mod answer;
