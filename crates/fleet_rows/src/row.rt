@@ -68,6 +68,15 @@ impl Cells {
         }
     }
 
+    /// An empty list with room for this many cells.
+    pub fn with_capacity(alloc: Global, capacity: usize) -> Result<Cells, AllocError>
+        ensures { IfOk result (λ cells. cells ≡ []) }
+    {
+        Ok(Cells {
+            list: Vec::with_capacity(alloc, capacity)?,
+        })
+    }
+
     /// Appends a cell. If memory runs out, the cell is dropped and the list is unchanged.
     pub fn push(&mut self, cell: Cell) -> Result<(), AllocError>
         ensures ok { OnOk result (self.new ≡ self.old ++ cell_of cell ∷ []) }
@@ -142,7 +151,7 @@ impl Row {
 fn copy_cells(alloc: Global, list: &[Cell]) -> Result<Cells, AllocError>
     ensures { IfOk result (λ cells. cells ≡ cells_of list.now) }
 {
-    let mut copied = Cells::new(alloc);
+    let mut copied = Cells::with_capacity(alloc, list.len())?;
     for cell in list {
         copied.push(cell.copy(alloc)?)?;
     }

@@ -36,7 +36,7 @@ pub fn node_row(
     ensures { IfOk result (λ row. IsRow row entity.Nodes
         (cells_with_head certname.now deactivated expired (facts_of facts.entry) (catalog_of catalog.entry) report.now)) }
 {
-    let mut cells = Cells::new(alloc);
+    let mut cells = Cells::with_capacity(alloc, 12)?;
     append(alloc, &mut cells, &catalog_columns(catalog))?;
     let state = [
         Shown::Text(certname),

@@ -35,7 +35,7 @@ pub(crate) enum Shown<'a> {
 pub(crate) fn cells(alloc: Global, columns: &[Shown]) -> Result<Cells, AllocError>
     ensures { IfOk result (λ cells. cells ≡ map shown_cell columns.now) }
 {
-    let mut cells = Cells::new(alloc);
+    let mut cells = Cells::with_capacity(alloc, columns.len())?;
     append(alloc, &mut cells, columns)?;
     Ok(cells)
 }
