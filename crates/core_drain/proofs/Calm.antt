@@ -1,14 +1,14 @@
 -- Counts of faults of the queue's disks, over calls.
 use Rattle.std.proofs.Common.{◌≡◌, ◌∙◌, ℕ, arith, refl, sym, ap, subst, Some}
-use Rattle.command_core.specs.log_pair.Open.{PairCounts}
-use Rattle.command_core.specs.log_pair.Pair.{disk_a, disk_b}
-use Rattle.command_core.specs.queue_log.declared.queue.QueueLog.{QueueLog}
-use Rattle.command_core.specs.queue_log.Queued.{queue_pair}
-use Rattle.command_core.specs.core_state.Puts.{QueueCounts}
-use Rattle.command_core.specs.core_claims.declared.answers.Claimed.{Claimed}
-use Rattle.command_core.specs.core_claims.declared.answers.Claimed.TheVariants as claimed
-use Rattle.command_core.specs.core_settles.declared.answers.Settled.{Settled}
-use Rattle.command_core.specs.core_settles.declared.answers.Settled.TheVariants as settled
+use Rattle.core_ends.specs.log_pair.Open.{PairCounts}
+use Rattle.core_ends.specs.log_pair.Pair.{disk_a, disk_b}
+use Rattle.core_ends.specs.queue_log.declared.queue.QueueLog.{QueueLog}
+use Rattle.core_ends.specs.queue_log.Queued.{queue_pair}
+use Rattle.core_ends.specs.core_state.Puts.{QueueCounts}
+use Rattle.core_ends.specs.core_claims.declared.answers.Claimed.{Claimed}
+use Rattle.core_ends.specs.core_claims.declared.answers.Claimed.TheVariants as claimed
+use Rattle.core_ends.specs.core_settles.declared.answers.Settled.{Settled}
+use Rattle.core_ends.specs.core_settles.declared.answers.Settled.TheVariants as settled
 use Rattle.core_ends.specs.declared.ends.WorkEnd.{WorkEnd}
 use Rattle.core_ends.specs.declared.ends.WorkEnd.TheVariants as end
 use Rattle.core_ends.specs.Answers.{after_claim, after_settle}

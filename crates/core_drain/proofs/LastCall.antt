@@ -1,19 +1,19 @@
 -- Which call was the last, over the calls before it.
 use Rattle.std.proofs.Common.{◌≡◌, Option, Some, None, refl, sym, subst}
-use Rattle.core_course.specs.fleet_ports.declared.disk.Disk as disk
-use Rattle.command_core.specs.fleet_keeper.declared.keeper.Keeper as keeper
-use Rattle.command_core.specs.core_state.declared.state.CoreState.{CoreState}
-use Rattle.command_core.specs.core_claims.declared.answers.Claimed.{Claimed}
-use Rattle.command_core.specs.core_claims.declared.answers.Claimed.TheVariants as claimed
-use Rattle.command_core.specs.core_claims.declared.job.Job.{Job}
-use Rattle.command_core.specs.core_claims.Calls.{CoreClaims}
-use Rattle.command_core.specs.core_settles.declared.answers.Settled.{Settled}
-use Rattle.command_core.specs.core_settles.declared.answers.Settled.TheVariants as settled
-use Rattle.command_core.specs.core_settles.declared.answers.Verdict.{Verdict}
-use Rattle.command_core.specs.core_settles.Call.{CoreSettles}
-use Rattle.core_course.specs.Sight.{sight_of}
-use Rattle.core_course.specs.Work.{Worked}
-use Rattle.core_course.proofs.Stretches.{worked_on}
+use Rattle.core_ends.specs.fleet_ports.declared.disk.Disk as disk
+use Rattle.core_ends.specs.fleet_keeper.declared.keeper.Keeper as keeper
+use Rattle.core_ends.specs.core_state.declared.state.CoreState.{CoreState}
+use Rattle.core_ends.specs.core_claims.declared.answers.Claimed.{Claimed}
+use Rattle.core_ends.specs.core_claims.declared.answers.Claimed.TheVariants as claimed
+use Rattle.core_ends.specs.core_claims.declared.job.Job.{Job}
+use Rattle.core_ends.specs.core_claims.Calls.{CoreClaims}
+use Rattle.core_ends.specs.core_settles.declared.answers.Settled.{Settled}
+use Rattle.core_ends.specs.core_settles.declared.answers.Settled.TheVariants as settled
+use Rattle.core_ends.specs.core_settles.declared.answers.Verdict.{Verdict}
+use Rattle.core_ends.specs.core_settles.Call.{CoreSettles}
+use Rattle.core_ends.specs.core_course.Sight.{sight_of}
+use Rattle.core_ends.specs.core_course.Work.{Worked}
+use Rattle.core_ends.proofs.of_core_course.Stretches.{worked_on}
 use Rattle.core_ends.proofs.Releases.{nothing_works}
 use Rattle.core_ends.specs.Answers.{after_claim, after_settle}
 use Rattle.core_drain.specs.LastCall.{EndedBy, by_claim, by_settle, EndsByCall, TurnEndsByCall}

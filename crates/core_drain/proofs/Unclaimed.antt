@@ -2,26 +2,26 @@
 use Rattle.std.proofs.Common.{◌≡◌, ◌≢◌, ◌∙◌, ◌↔◌, inl, inr, ℕ, ◌==◌, arith, Bool, true, false, if◌then◌else◌, [], ◌∷◌, ◌++◌, refl, sym, ap, subst}
 use Rattle.command_decode.specs.fleet_rows.declared.refusal.Cause.{Cause}
 use Rattle.command_decode.specs.fleet_rows.declared.refusal.Cause.TheVariants as cause
-use Rattle.command_core.specs.core_spec.declared.event.Event.TheVariants.{Submit, Claim, Release, Apply, Supersede, Fail, Discard, Sweep, Restart}
-use Rattle.command_core.specs.core_spec.History.{History, Standing, queued, applied, superseded, discarded, standing}
-use Rattle.command_core.specs.core_spec.History as history
-use Rattle.core_course.specs.core_machine.Claims.{is_claimed}
-use Rattle.command_core.specs.core_state.declared.state.CoreState.{CoreState}
-use Rattle.command_core.specs.core_state.StandsFor.{history_of}
-use Rattle.command_core.specs.core_claims.declared.answers.Claimed.{Claimed}
-use Rattle.command_core.specs.core_claims.declared.answers.Claimed.TheVariants as claimed
-use Rattle.command_core.specs.core_claims.declared.job.Job.{Job}
-use Rattle.command_core.specs.core_claims.Claims.{OnlySupersede, claim_of}
-use Rattle.command_core.specs.core_claims.Releases.{ReleaseGives, released, wasnt_claimed}
-use Rattle.command_core.specs.core_settles.declared.answers.Settled.{Settled}
-use Rattle.command_core.specs.core_settles.declared.answers.Settled.TheVariants as settled
-use Rattle.command_core.specs.core_settles.declared.answers.Verdict.{Verdict}
-use Rattle.command_core.specs.core_settles.declared.answers.Verdict.TheVariants as verdict
-use Rattle.command_core.specs.core_settles.Settles.{SettleGives, SettleLeaves}
-use Rattle.command_core.proofs.of_core_state.Tests.{not_claimed_stands}
-use Rattle.core_course.specs.Sight.{Sight, Stood, is_down}
-use Rattle.core_course.specs.Work.{Worked}
-use Rattle.core_course.proofs.Stretches.{history_joined}
+use Rattle.core_ends.specs.core_spec.declared.event.Event.TheVariants.{Submit, Claim, Release, Apply, Supersede, Fail, Discard, Sweep, Restart}
+use Rattle.core_ends.specs.core_spec.History.{History, Standing, queued, applied, superseded, discarded, standing}
+use Rattle.core_ends.specs.core_spec.History as history
+use Rattle.core_ends.specs.core_machine.Claims.{is_claimed}
+use Rattle.core_ends.specs.core_state.declared.state.CoreState.{CoreState}
+use Rattle.core_ends.specs.core_state.StandsFor.{history_of}
+use Rattle.core_ends.specs.core_claims.declared.answers.Claimed.{Claimed}
+use Rattle.core_ends.specs.core_claims.declared.answers.Claimed.TheVariants as claimed
+use Rattle.core_ends.specs.core_claims.declared.job.Job.{Job}
+use Rattle.core_ends.specs.core_claims.Claims.{OnlySupersede, claim_of}
+use Rattle.core_ends.specs.core_claims.Releases.{ReleaseGives, released, wasnt_claimed}
+use Rattle.core_ends.specs.core_settles.declared.answers.Settled.{Settled}
+use Rattle.core_ends.specs.core_settles.declared.answers.Settled.TheVariants as settled
+use Rattle.core_ends.specs.core_settles.declared.answers.Verdict.{Verdict}
+use Rattle.core_ends.specs.core_settles.declared.answers.Verdict.TheVariants as verdict
+use Rattle.core_ends.specs.core_settles.Settles.{SettleGives, SettleLeaves}
+use Rattle.core_ends.proofs.of_core_state.Tests.{not_claimed_stands}
+use Rattle.core_ends.specs.core_course.Sight.{Sight, Stood, is_down}
+use Rattle.core_ends.specs.core_course.Work.{Worked}
+use Rattle.core_ends.proofs.of_core_course.Stretches.{history_joined}
 use Rattle.core_ends.specs.Ends.{NothingClaimed, ClaimsNoMore, LetsGo}
 use Rattle.core_ends.proofs.Claims.{ClaimSays}
 use Rattle.core_ends.proofs.Links.{core_up}

@@ -1,17 +1,16 @@
 //! Claims and settles commands until none is pending.
 ghost use Rattle.std.specs.Prelude.{◌≡◌, ◌↔◌, true, false, Some};
-ghost use Rattle.command_core.specs.core_state.Puts.{QueueCounts};
-ghost use Rattle.command_core.specs.core_state.Seen.{down_of};
-ghost use Rattle.core_course.specs.Sight.{sight_of};
-ghost use Rattle.core_course.specs.Work.{Worked};
+ghost use Rattle.core_ends.specs.core_state.Puts.{QueueCounts};
+ghost use Rattle.core_ends.specs.core_state.Seen.{down_of};
+ghost use Rattle.core_ends.specs.core_course.Sight.{sight_of};
+ghost use Rattle.core_ends.specs.core_course.Work.{Worked};
 ghost use Rattle.core_ends.specs.declared.ends.WorkEnd.TheVariants as end;
 ghost use Rattle.core_ends.specs.Answers.{after_claim};
 ghost use Rattle.core_ends.specs.Ends.{EndsSo, EndsHere, NothingClaimed, ClaimsNoMore};
 ghost use Rattle.core_drain.specs.LastCall.{EndsByCall, TurnEndsByCall};
 
 use crate::work::work_on;
-use command_core::{Claimed, Core, Keeper};
-use core_ends::WorkEnd;
+use core_ends::{Claimed, Core, Keeper, WorkEnd};
 use fleet_ports::Disk;
 use std::alloc::Global;
 

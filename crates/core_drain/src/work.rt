@@ -1,16 +1,15 @@
 //! Works on one claimed command.
 ghost use Rattle.std.specs.Prelude.{◌≡◌, false, Some};
-ghost use Rattle.command_core.specs.core_state.Puts.{QueueCounts};
-ghost use Rattle.command_core.specs.core_state.Seen.{down_of, IsSubmitted, IsFit};
-ghost use Rattle.command_core.specs.core_settles.Settles.{IsVerdictOf};
-ghost use Rattle.core_course.specs.Sight.{sight_of};
-ghost use Rattle.core_course.specs.Work.{Worked};
+ghost use Rattle.core_ends.specs.core_state.Puts.{QueueCounts};
+ghost use Rattle.core_ends.specs.core_state.Seen.{down_of, IsSubmitted, IsFit};
+ghost use Rattle.core_ends.specs.core_settles.Settles.{IsVerdictOf};
+ghost use Rattle.core_ends.specs.core_course.Sight.{sight_of};
+ghost use Rattle.core_ends.specs.core_course.Work.{Worked};
 ghost use Rattle.core_ends.specs.Ends.{EndsHere, LetsGo};
 ghost use Rattle.core_drain.specs.LastCall.{TurnEndsByCall};
 
-use command_core::{Core, Job, Keeper, Prepared, Settled, Verdict};
 use command_decode::{DecodeFault, decode};
-use core_ends::{WorkEnd, end_of_settle};
+use core_ends::{Core, Job, Keeper, Prepared, Settled, Verdict, WorkEnd, end_of_settle};
 use fleet_ports::Disk;
 use fleet_rows::Change;
 use std::alloc::Global;

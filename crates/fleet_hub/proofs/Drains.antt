@@ -20,7 +20,7 @@ use Rattle.core_drain.proofs.Links.{core_up}
 use Rattle.core_drain.proofs.Releases.{FreeSays, free_claims_works, free_claims_down, nothing_works}
 use Rattle.core_drain.proofs.Later.{here_later, ends_so, not_down}
 use Rattle.core_drain.proofs.Unclaimed.{down_claims_none}
-use Rattle.hub_calls.specs.Follows.{MayWrite, is_work, is_submit, is_sweep, WentDown, by_store, by_queue, Follows}
+use Rattle.hub_work.specs.hub_calls.Follows.{MayWrite, is_work, is_submit, is_sweep, WentDown, by_store, by_queue, Follows}
 use Rattle.fleet_hub.specs.Finish.{Finished}
 
 -- ---- which log a core is down by

@@ -1,9 +1,9 @@
 pub mod Finish
 -- Re-exports for the crates above.
-pub use Rattle.hub_calls.specs.Entries as Entries
-pub use Rattle.hub_calls.specs.Follows as Follows
-pub use Rattle.hub_calls.specs.Seen as Seen
-pub use Rattle.hub_calls.specs.Calls as Calls
+pub use Rattle.hub_work.specs.hub_calls.Entries as Entries
+pub use Rattle.hub_work.specs.hub_calls.Follows as Follows
+pub use Rattle.hub_work.specs.hub_calls.Seen as Seen
+pub use Rattle.hub_work.specs.hub_calls.Calls as Calls
 pub use Rattle.hub_work.specs.Ends as Ends
 pub use Rattle.core_drain.specs.log_pair as log_pair
 pub use Rattle.core_drain.specs.fleet_rows as fleet_rows

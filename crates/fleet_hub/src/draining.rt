@@ -7,15 +7,14 @@ ghost use Rattle.core_drain.specs.core_ends.declared.ends.WorkEnd.TheVariants as
 ghost use Rattle.core_drain.specs.Ends.{EndsSo, NothingClaimed};
 ghost use Rattle.core_drain.specs.LastCall.{EndsByCall};
 ghost use Rattle.fleet_hub.specs.Finish.{Finished};
-ghost use Rattle.hub_calls.specs.Follows.{Follows};
+ghost use Rattle.hub_work.specs.hub_calls.Follows.{Follows};
 ghost use Rattle.fleet_rows.specs.Limits.{most_workers};
 
 use crate::hub::Hub;
 use core_drain::{Core, DownBy, Keeper, WorkEnd, drain_alone};
 use fleet_ports::Disk;
 use fleet_rows::MOST_WORKERS;
-use hub_calls::{Lock, Pass, WorkAlone, values_go};
-use hub_work::{Gate, work_at};
+use hub_work::{Gate, Lock, Pass, WorkAlone, values_go, work_at};
 use std::alloc::{AllocError, AllocFailed, Global};
 use std::sync::Wait;
 use std::thread;

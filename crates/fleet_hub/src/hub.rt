@@ -8,16 +8,16 @@ ghost use Rattle.core_drain.specs.core_course.Sight.{sight_of};
 ghost use Rattle.turn_lock.specs.Holds.{Apart, AppendAll, times_appended};
 ghost use Rattle.turn_lock.specs.Seen.{LongerOf};
 ghost use Rattle.turn_lock.specs.declared.lock.SplitFault.{SplitFault};
-ghost use Rattle.hub_calls.specs.Entries.{entries, WasSubmitted};
-ghost use Rattle.hub_calls.specs.Calls.{SubmitDoes, ClaimDoes, ReleaseDoes, SettleDoes, SweepDoes};
-ghost use Rattle.hub_calls.specs.Follows.{Follows};
-ghost use Rattle.hub_calls.specs.Seen.{ClosedFrom, HasJob, OneCall, SeenBy, list_of};
+ghost use Rattle.hub_work.specs.hub_calls.Entries.{entries, WasSubmitted};
+ghost use Rattle.hub_work.specs.hub_calls.Calls.{SubmitDoes, ClaimDoes, ReleaseDoes, SettleDoes, SweepDoes};
+ghost use Rattle.hub_work.specs.hub_calls.Follows.{Follows};
+ghost use Rattle.hub_work.specs.hub_calls.Seen.{ClosedFrom, HasJob, OneCall, SeenBy, list_of};
 ghost use Rattle.json_tree.specs.Limits.{most_payload};
 
 use core_drain::{Claimed, Core, Job, Keeper, Settled, Submitted, Swept, Verdict};
 use fleet_ports::Disk;
 use fleet_rows::{Command, Kinds};
-use hub_calls::{AllCalls, Followed, Pass, Purpose, claim, release, settle};
+use hub_work::{AllCalls, Followed, Pass, Purpose, claim, release, settle};
 use stamp_time::Moment;
 use std::alloc::{AllocError, Global};
 use std::marker::Model;
@@ -36,7 +36,7 @@ impl<D: Disk + Drop, K: Keeper + Drop, P: Purpose> Model for Hub<D, K, P> {
     ghost use Rattle.core_drain.specs.text_spec.JsonCode.{coded_json};
     ghost use Rattle.core_drain.specs.fleet_tables.Seen.{coded_table};
     ghost use Rattle.turn_lock.specs.Seen.{LockView};
-    ghost use Rattle.hub_calls.specs.declared.entry.Entry.{Entry};
+    ghost use Rattle.hub_work.specs.hub_calls.declared.entry.Entry.{Entry};
 
     ghost Value = { LockView (Entry D K) };
 

@@ -39,5 +39,4 @@ pub use core_drain::{
     Claimed, Core, DownBy, Job, Keeper, LogKeeper, OpenCoreFault, Prepared, Settled, Submitted,
     Swept, Tally, Verdict, WorkEnd, lay_core, open_core,
 };
-pub use hub_calls::{AllCalls, Entry, Followed, Pass, Purpose, WorkAlone};
-pub use hub_work::{Gate, OpenGate};
+pub use hub_work::{AllCalls, Entry, Followed, Gate, OpenGate, Pass, Purpose, WorkAlone};

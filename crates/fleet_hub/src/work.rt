@@ -1,14 +1,13 @@
 //! The work of one worker on a hub.
 ghost use Rattle.std.specs.Prelude.{◌≡◌, None};
 ghost use Rattle.core_drain.specs.core_course.Sight.{sight_of};
-ghost use Rattle.hub_calls.specs.Seen.{PassGoesOn};
+ghost use Rattle.hub_work.specs.hub_calls.Seen.{PassGoesOn};
 ghost use Rattle.hub_work.specs.Ends.{LastCall};
 
 use crate::hub::Hub;
 use core_drain::{Keeper, WorkEnd};
 use fleet_ports::Disk;
-use hub_calls::{Pass, Purpose};
-use hub_work::{Gate, work_at};
+use hub_work::{Gate, Pass, Purpose, work_at};
 use std::alloc::Global;
 use std::sync::Wait;
 

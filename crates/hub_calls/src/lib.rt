@@ -20,3 +20,6 @@ pub use entry::Entry;
 pub use followed::Followed;
 pub use purpose::{AllCalls, Purpose, WorkAlone};
 pub use under_lock::{Lock, Pass, claim, release, settle};
+
+// Re-exports for the crates above.
+pub use core_ends::{Claimed, Job, Keeper, Prepared, Settled, Verdict, WorkEnd, end_of_settle};

@@ -1,17 +1,17 @@
 -- What a worker calls, and what ended its work.
 use Rattle.std.specs.Prelude.{◌≡◌, ℕ, Bool, Option, Some, None}
 use Rattle.turn_lock.specs.Seen.{PassView}
-use Rattle.core_ends.specs.core_claims.declared.answers.Claimed.{Claimed}
-use Rattle.core_ends.specs.core_claims.declared.answers.Claimed.TheVariants as claimed
-use Rattle.core_ends.specs.core_claims.declared.job.Job.{Job}
-use Rattle.core_ends.specs.core_settles.declared.answers.Settled.{Settled}
-use Rattle.core_ends.specs.core_settles.declared.answers.Settled.TheVariants as settled
-use Rattle.core_ends.specs.core_settles.declared.answers.Verdict.{Verdict}
-use Rattle.core_ends.specs.core_settles.Settles.{IsMemory}
-use Rattle.core_ends.specs.core_course.Sight.{Sight}
-use Rattle.core_ends.specs.Answers.{after_claim, after_settle}
-use Rattle.core_ends.specs.declared.ends.WorkEnd.{WorkEnd}
-use Rattle.core_ends.specs.declared.ends.WorkEnd.TheVariants.{Memory}
+use Rattle.hub_calls.specs.core_ends.core_claims.declared.answers.Claimed.{Claimed}
+use Rattle.hub_calls.specs.core_ends.core_claims.declared.answers.Claimed.TheVariants as claimed
+use Rattle.hub_calls.specs.core_ends.core_claims.declared.job.Job.{Job}
+use Rattle.hub_calls.specs.core_ends.core_settles.declared.answers.Settled.{Settled}
+use Rattle.hub_calls.specs.core_ends.core_settles.declared.answers.Settled.TheVariants as settled
+use Rattle.hub_calls.specs.core_ends.core_settles.declared.answers.Verdict.{Verdict}
+use Rattle.hub_calls.specs.core_ends.core_settles.Settles.{IsMemory}
+use Rattle.hub_calls.specs.core_ends.core_course.Sight.{Sight}
+use Rattle.hub_calls.specs.core_ends.Answers.{after_claim, after_settle}
+use Rattle.hub_calls.specs.core_ends.declared.ends.WorkEnd.{WorkEnd}
+use Rattle.hub_calls.specs.core_ends.declared.ends.WorkEnd.TheVariants.{Memory}
 use Rattle.hub_calls.specs.declared.entry.Entry.{Entry}
 use Rattle.hub_calls.specs.Calls.{ClaimDoes, ReleaseDoes, SettleDoes}
 use Rattle.hub_calls.specs.Seen.{OneCall}

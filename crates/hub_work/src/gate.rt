@@ -1,6 +1,6 @@
 //! Decodes for the workers, outside the lock.
 ghost use Rattle.std.specs.Prelude.{◌<◌, ◌^◌, length};
-ghost use Rattle.core_ends.specs.command_decode.Answers.{DecodedAs};
+ghost use Rattle.hub_calls.specs.core_ends.command_decode.Answers.{DecodedAs};
 
 use command_decode::{DecodeFault, decode};
 use fleet_rows::{Change, Command};

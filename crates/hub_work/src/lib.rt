@@ -10,3 +10,8 @@ mod work;
 
 pub use gate::{Gate, OpenGate};
 pub use work::work_at;
+
+// Re-exports for the crates above.
+pub use hub_calls::{
+    AllCalls, Entry, Followed, Lock, Pass, Purpose, WorkAlone, claim, release, settle, values_go,
+};

@@ -1,19 +1,21 @@
 //! Works as one worker: claims, decodes and settles, until an end.
 ghost use Rattle.std.specs.Prelude.{◌≡◌, Some, None};
-ghost use Rattle.core_ends.specs.Answers.{after_claim};
-ghost use Rattle.core_ends.specs.core_settles.Settles.{IsVerdictOf};
-ghost use Rattle.core_ends.specs.core_state.Seen.{IsFit};
-ghost use Rattle.core_ends.specs.core_course.Sight.{sight_of};
+ghost use Rattle.hub_calls.specs.core_ends.Answers.{after_claim};
+ghost use Rattle.hub_calls.specs.core_ends.core_settles.Settles.{IsVerdictOf};
+ghost use Rattle.hub_calls.specs.core_ends.core_state.Seen.{IsFit};
+ghost use Rattle.hub_calls.specs.core_ends.core_course.Sight.{sight_of};
 ghost use Rattle.hub_work.specs.Ends.{LastCall, WorksOn};
 ghost use Rattle.hub_calls.specs.Entries.{WasSubmitted};
 ghost use Rattle.hub_calls.specs.Seen.{PassGoesOn};
 
 use crate::gate::Gate;
 use command_decode::DecodeFault;
-use core_ends::{Claimed, Job, Keeper, Prepared, Settled, Verdict, WorkEnd, end_of_settle};
 use fleet_ports::Disk;
 use fleet_rows::Change;
-use hub_calls::{Lock, Pass, Purpose, claim, release, settle};
+use hub_calls::{
+    Claimed, Job, Keeper, Lock, Pass, Prepared, Purpose, Settled, Verdict, WorkEnd, claim,
+    end_of_settle, release, settle,
+};
 use std::alloc::Global;
 use std::sync::Wait;
 

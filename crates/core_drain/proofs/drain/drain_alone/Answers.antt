@@ -1,6 +1,6 @@
 use Rattle.std.proofs.Common.{◌∙◌, false, Some, refl, ap, sym}
-use Rattle.core_course.specs.Sight.{Sight, sight}
-use Rattle.core_course.proofs.Stretches.{worked_on}
+use Rattle.core_ends.specs.core_course.Sight.{Sight, sight}
+use Rattle.core_ends.proofs.of_core_course.Stretches.{worked_on}
 use Rattle.core_ends.proofs.Releases.{FreeSays, free_claims_works, free_claims_down, nothing_works}
 use Rattle.core_ends.specs.declared.ends.WorkEnd.{WorkEnd}
 use Rattle.core_drain.proofs.Calm.{counts_as, counts_calm, counts_still, counts_then, end_fault}

@@ -1,9 +1,9 @@
 -- So far the core was worked on, no disk of the queue failed, it is up, and nothing is claimed.
 use Rattle.std.proofs.Common.{◌≡◌, false}
-use Rattle.command_core.specs.core_state.Puts.{QueueCounts}
-use Rattle.command_core.specs.core_state.Seen.{down_of}
-use Rattle.core_course.specs.Sight.{Sight, sight}
-use Rattle.core_course.specs.Work.{Worked}
+use Rattle.core_ends.specs.core_state.Puts.{QueueCounts}
+use Rattle.core_ends.specs.core_state.Seen.{down_of}
+use Rattle.core_ends.specs.core_course.Sight.{Sight, sight}
+use Rattle.core_ends.specs.core_course.Work.{Worked}
 use Rattle.core_ends.specs.Ends.{NothingClaimed}
 use Rattle.core_drain.proofs.drain.drain_alone.Given as goal
 

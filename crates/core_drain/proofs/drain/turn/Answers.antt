@@ -1,8 +1,8 @@
 use Rattle.std.proofs.Common.{◌∙◌, Option, ap, sym, subst}
-use Rattle.command_core.specs.core_claims.declared.answers.Claimed.{Claimed}
-use Rattle.command_core.specs.core_claims.Claims.{HasSubmittedJob}
-use Rattle.core_course.specs.Sight.{Sight, sight}
-use Rattle.core_course.proofs.Stretches.{worked_on}
+use Rattle.core_ends.specs.core_claims.declared.answers.Claimed.{Claimed}
+use Rattle.core_ends.specs.core_claims.Claims.{HasSubmittedJob}
+use Rattle.core_ends.specs.core_course.Sight.{Sight, sight}
+use Rattle.core_ends.proofs.of_core_course.Stretches.{worked_on}
 use Rattle.core_ends.proofs.Claims.{ClaimSays, claim_events, claim_passes, claim_works}
 use Rattle.core_ends.specs.Ends.{EndsHere}
 use Rattle.core_ends.specs.declared.ends.WorkEnd.{WorkEnd}

@@ -1,6 +1,6 @@
 use Rattle.std.proofs.Common.{◌∙◌}
-use Rattle.command_core.specs.core_state.StandsFor.{history_of}
-use Rattle.core_course.specs.Sight.{Sight, sight}
+use Rattle.core_ends.specs.core_state.StandsFor.{history_of}
+use Rattle.core_ends.specs.core_course.Sight.{Sight, sight}
 use Rattle.core_ends.proofs.Releases.{ReleaseSays, release_works, release_down}
 use Rattle.core_drain.proofs.Unclaimed.{lets_by_release}
 use Rattle.core_drain.proofs.work.give_back.Goals as goal

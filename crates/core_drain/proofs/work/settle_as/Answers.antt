@@ -1,6 +1,6 @@
 use Rattle.std.proofs.Common.{◌∙◌, Option, Some, ap, sym, subst}
-use Rattle.core_course.specs.Sight.{Sight, sight}
-use Rattle.core_course.proofs.Stretches.{worked_on}
+use Rattle.core_ends.specs.core_course.Sight.{Sight, sight}
+use Rattle.core_ends.proofs.of_core_course.Stretches.{worked_on}
 use Rattle.core_ends.proofs.Settles.{SettleSays, settle_works}
 use Rattle.core_ends.specs.Ends.{EndsHere}
 use Rattle.core_ends.specs.Answers.{after_settle}

@@ -7,12 +7,12 @@ use Rattle.turn_lock.proofs.pass.Pass.TheSendSync as pass
 use Rattle.turn_lock.proofs.pass.TurnLock.TheSendSync as lock
 use Rattle.turn_lock.specs.contracts.pass.Pass as Pass
 use Rattle.turn_lock.specs.contracts.pass.TurnLock as TurnLock
-use Rattle.hub_calls.specs.contracts.entry.Entry as Entry
-use Rattle.hub_calls.specs.contracts.followed.Followed as Followed
-use Rattle.hub_calls.specs.contracts.followed.FollowedHeld.TheImpl as held
-use Rattle.hub_calls.specs.contracts.purpose.WorkAlone as WorkAlone
-use Rattle.hub_calls.specs.contracts.purpose.WorkAlonePurpose.TheImpl as alone
-use Rattle.hub_calls.proofs.Crosses.{followed_goes, caught}
+use Rattle.hub_work.specs.hub_calls.contracts.entry.Entry as Entry
+use Rattle.hub_work.specs.hub_calls.contracts.followed.Followed as Followed
+use Rattle.hub_work.specs.hub_calls.contracts.followed.FollowedHeld.TheImpl as held
+use Rattle.hub_work.specs.hub_calls.contracts.purpose.WorkAlone as WorkAlone
+use Rattle.hub_work.specs.hub_calls.contracts.purpose.WorkAlonePurpose.TheImpl as alone
+use Rattle.hub_work.proofs.of_hub_calls.Crosses.{followed_goes, caught}
 use Rattle.fleet_hub.proofs.draining.run_all.Lts as types
 use Rattle.fleet_hub.proofs.draining.run_all.Goals as goal
 

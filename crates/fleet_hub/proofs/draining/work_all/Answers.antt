@@ -1,8 +1,8 @@
 use Rattle.std.proofs.Common.{true, sym, subst}
 use Rattle.core_drain.specs.core_state.declared.state.CoreState.{CoreState}
 use Rattle.core_drain.specs.core_course.Sight.{Sight, sight}
-use Rattle.hub_calls.specs.Follows.{Follows}
-use Rattle.hub_calls.proofs.Steps.{nothing_follows}
+use Rattle.hub_work.specs.hub_calls.Follows.{Follows}
+use Rattle.hub_work.proofs.of_hub_calls.Steps.{nothing_follows}
 use Rattle.fleet_hub.proofs.draining.work_all.Goals as goal
 
 pub returns-in-Err : goal.returns-in-Err

@@ -1,6 +1,6 @@
 use Rattle.std.proofs.Common.{◌∙◌, Some}
 use Rattle.turn_lock.proofs.Prefixes.{prefix_trans}
-use Rattle.core_ends.specs.core_course.Sight.{Sight, sight}
+use Rattle.hub_calls.specs.core_ends.core_course.Sight.{Sight, sight}
 use Rattle.hub_work.proofs.Ends.{last_later, settle_returns, last_settle}
 use Rattle.hub_work.proofs.work.settle_as.Goals as goal
 

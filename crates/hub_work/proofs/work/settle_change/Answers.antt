@@ -1,5 +1,5 @@
 use Rattle.std.proofs.Common.{◌∙◌, Ok, sym, ap}
-use Rattle.core_ends.proofs.Verdicts.{is_lawful}
+use Rattle.hub_calls.proofs.of_core_ends.Verdicts.{is_lawful}
 use Rattle.hub_work.proofs.work.settle_change.Goals as goal
 
 pub of-requires-clause-lawful : goal.of-requires-clause-lawful

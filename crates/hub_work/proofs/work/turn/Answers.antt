@@ -1,7 +1,7 @@
 use Rattle.std.proofs.Common.{◌∙◌, Some, None, subst}
 use Rattle.turn_lock.proofs.Prefixes.{prefix_trans}
-use Rattle.core_ends.specs.core_claims.declared.answers.Claimed.{Claimed}
-use Rattle.core_ends.specs.core_course.Sight.{Sight, sight}
+use Rattle.hub_calls.specs.core_ends.core_claims.declared.answers.Claimed.{Claimed}
+use Rattle.hub_calls.specs.core_ends.core_course.Sight.{Sight, sight}
 use Rattle.hub_calls.specs.Seen.{HasJob}
 use Rattle.hub_work.proofs.Ends.{works_later, claims_job, last_claim}
 use Rattle.hub_work.proofs.work.turn.Goals as goal

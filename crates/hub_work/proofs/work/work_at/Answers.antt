@@ -1,6 +1,6 @@
 use Rattle.std.proofs.Common.{◌∙◌, None, refl}
 use Rattle.turn_lock.proofs.Prefixes.{prefix_refl, prefix_trans}
-use Rattle.core_ends.specs.core_course.Sight.{Sight, sight}
+use Rattle.hub_calls.specs.core_ends.core_course.Sight.{Sight, sight}
 use Rattle.hub_work.specs.Ends.{none}
 use Rattle.hub_work.proofs.Ends.{calls_join, last_later}
 use Rattle.hub_work.proofs.work.work_at.Goals as goal

@@ -1,7 +1,7 @@
 -- So far the pass is of the hub, with its spares, and has seen more, with further holds; and no job is at hand.
 use Rattle.std.proofs.Common.{◌≡◌, None}
 use mathlib.Core.List.{IsPrefix}
-use Rattle.core_ends.specs.core_course.Sight.{Sight, sight}
+use Rattle.hub_calls.specs.core_ends.core_course.Sight.{Sight, sight}
 use Rattle.hub_work.specs.Ends.{WorkCalls}
 use Rattle.hub_work.proofs.work.work_at.Given as goal
 

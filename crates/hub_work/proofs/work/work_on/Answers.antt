@@ -1,10 +1,10 @@
 use Rattle.std.proofs.Common.{◌∙◌, Ok, Err, sym, ap, subst}
-use Rattle.core_ends.specs.fleet_rows.declared.command.Command.{Command}
-use Rattle.core_ends.specs.wire_spec.Decode.{DecodeOf}
-use Rattle.core_ends.specs.command_decode.Answers.{RefusedAs}
-use Rattle.core_ends.specs.command_decode.declared.fault.DecodeFault.{DecodeFault}
-use Rattle.core_ends.specs.command_decode.declared.fault.DecodeFault.TheVariants.{Refused}
-use Rattle.core_ends.proofs.Verdicts.{is_change, is_refusal}
+use Rattle.hub_calls.specs.core_ends.fleet_rows.declared.command.Command.{Command}
+use Rattle.hub_calls.specs.core_ends.wire_spec.Decode.{DecodeOf}
+use Rattle.hub_calls.specs.core_ends.command_decode.Answers.{RefusedAs}
+use Rattle.hub_calls.specs.core_ends.command_decode.declared.fault.DecodeFault.{DecodeFault}
+use Rattle.hub_calls.specs.core_ends.command_decode.declared.fault.DecodeFault.TheVariants.{Refused}
+use Rattle.hub_calls.proofs.of_core_ends.Verdicts.{is_change, is_refusal}
 use Rattle.hub_work.proofs.work.work_on.Goals as goal
 
 pub settle_change-requires-clause-decodes : goal.settle_change-requires-clause-decodes

@@ -2,10 +2,10 @@ use Rattle.std.proofs.Common.{◌≡◌, sym, subst}
 use mathlib.Core.List.{IsPrefix}
 use Rattle.core_drain.specs.core_state.declared.state.CoreState.{CoreState}
 use Rattle.core_drain.specs.core_course.Sight.{Sight, sight}
-use Rattle.hub_calls.specs.Entries.{entries}
-use Rattle.hub_calls.specs.Follows.{Follows}
-use Rattle.hub_calls.specs.Seen.{list_of}
-use Rattle.hub_calls.proofs.Entries.{same_start}
+use Rattle.hub_work.specs.hub_calls.Entries.{entries}
+use Rattle.hub_work.specs.hub_calls.Follows.{Follows}
+use Rattle.hub_work.specs.hub_calls.Seen.{list_of}
+use Rattle.hub_work.proofs.of_hub_calls.Entries.{same_start}
 use Rattle.fleet_hub.proofs.hub.Hub.close.Goals as goal
 
 pub returns-clause-follows : goal.returns-clause-follows

@@ -1,5 +1,5 @@
 use Rattle.core_drain.specs.core_course.Sight.{Sight, sight}
-use Rattle.hub_calls.proofs.Calls.{one_call}
+use Rattle.hub_work.proofs.of_hub_calls.Calls.{one_call}
 use Rattle.fleet_hub.proofs.hub.Hub.sweep.Goals as goal
 
 pub returns-clause-one_call : goal.returns-clause-one_call
