@@ -19,8 +19,8 @@
 //! What is kept of one node stands in `kept_nodes`, with the words for rows by index, for the sought rows and for their places.
 //!
 //! Memory is taken only by `Prepared::of`, the two calls that make room, the three that prepare, `row`, `seek`, `snapshot`,
-//! `from_list` and `mark`. The stored data is in `State`, which holds no allocator except those of its lists; only these calls hand
-//! it one.
+//! `node_lists`, `from_list` and `mark`. The stored data is in `State`, which holds no allocator except those of its lists; only
+//! these calls hand it one.
 //!
 //! A row shows hashes and has its place by an order (`kept_nodes`). `Prepared::of` computes both without the tables.
 //! `reserve_prepared` computes nothing, and `reserve` only packs a report. `prepare` computes them for all nodes, `prepare_node`
@@ -50,6 +50,7 @@
 //! - `of_node`, `of_fact`, `of_resource`, `fact_place`, `seek`: the places of exactly the rows that a filter of all rows finds.
 //!   Those without a certname look into each node.
 //! - `active_count`: the number of rows whose node is active. It asks each node. `stand_by_certname`: the order of nodes, as a law.
+//! - `node_lists` hands out the nodes by reference, and `expiry` and `retention` the greatest sweeps: exact.
 //! - `snapshot` copies each kept change. `from_list` takes each list of lawful changes (`value`, `stands`, `further`).
 //! - `set_sweeps` and `mark` are the first steps of `from_list`; afterwards tables may stand for no history. Without memory
 //!   `mark` leaves the tables. At 2^62 nodes it refuses known nodes too.
@@ -69,6 +70,7 @@ mod snapshot;
 mod spans;
 mod state;
 mod steps;
+mod stored;
 mod tables;
 
 pub use lookups::Places;

@@ -59,5 +59,5 @@ pub use packed::{PackedLists, PackedReport};
 pub use places::{count_from, node_of_row, place_of};
 pub use preparing::{prepare_node, prepare_nodes};
 pub use shown::{CatalogShown, FactsShown, ResourcesShown};
-pub use snapshot::{push_commands, push_marks};
+pub use snapshot::{push_commands, push_marks, reports_by_rank};
 pub use wanted::{Span, Wanted, WantedResource};

@@ -214,8 +214,15 @@ impl PackedReport {
     }
 }
 
-// What is kept of a report besides its lists. So a reader of these columns unpacks nothing.
+// What is kept of a report, by reference. So a reader of these columns, or of the lists' texts, unpacks nothing.
 impl PackedReport {
+    /// The lists as they are kept.
+    pub fn lists(&self) -> &PackedLists
+        ensures { AreListsOf result.now self.now }
+    {
+        &self.lists
+    }
+
     pub fn certname(&self) -> &Text
         ensures { result.now ≡ self.now.certname }
     {

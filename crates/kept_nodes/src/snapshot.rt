@@ -183,11 +183,15 @@ fn push_ranked(
 ) -> Result<(), AllocError>
     ensures { OnOk result (commands.new ≡ commands.old ++ sorted_by by_rank (map report_seen reports.now)) }
 {
-    let ranked = by_rank(alloc, reports)?;
+    let ranked = reports_by_rank(alloc, reports)?;
     push_reports(alloc, ranked.as_slice(), commands)
 }
 
-fn by_rank(alloc: Global, reports: &[HeldReport]) -> Result<Vec<&HeldReport>, AllocError>
+/// The reports by rank, by reference. It copies no report.
+pub fn reports_by_rank(
+    alloc: Global,
+    reports: &[HeldReport],
+) -> Result<Vec<&HeldReport>, AllocError>
     ensures { IfOk result (λ v. map (λ r. report_seen r.now) v.items ≡ sorted_by by_rank (map report_seen reports.now)) }
 {
     let mut ranked = references(alloc, reports)?;

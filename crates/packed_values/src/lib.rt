@@ -105,6 +105,13 @@ impl PackedItems {
         }
     }
 
+    /// The list's compact text.
+    pub fn text(&self) -> &[u8]
+        ensures { result.now ≡ compact (array (items_of self.now)) }
+    {
+        self.text.as_slice()
+    }
+
     /// How many bytes the list takes.
     pub fn size(&self) -> usize
         ensures { result ≡ length (compact (array (items_of self.now))) }

@@ -6,7 +6,7 @@ use Rattle.checkpoint_spec.specs.table_spec.Sorted.{sorted_by}
 use Rattle.checkpoint_spec.specs.Lists.{by_rank}
 use Rattle.kept_nodes.specs.Seen.{report_seen}
 use Rattle.kept_nodes.proofs.SnapshotLaws.{by_rank_total, sorted_references}
-use Rattle.kept_nodes.proofs.snapshot.by_rank.Goals as goal
+use Rattle.kept_nodes.proofs.snapshot.reports_by_rank.Goals as goal
 
 pub returns : goal.returns
 returns c =
