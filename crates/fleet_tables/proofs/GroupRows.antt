@@ -1,9 +1,10 @@
 -- The rows of groups: how many, and where they stand.
-use Rattle.std.proofs.Common.{◌≡◌, ◌∙◌, ℕ, ℤ, suc, ◌+◌, ◌-◌, ◌<◌, ◌≤◌, List, [], ◌++◌, length, take, drop, slice_get, Option, Some, None, refl, sym, ap, subst, arith, append_assoc, add-one, length-append}
+use Rattle.std.proofs.Common.{◌≡◌, ◌∙◌, ℕ, ℤ, zero, suc, ◌+◌, ◌-◌, ◌<◌, ◌≤◌, List, [], ◌∷◌, ◌++◌, length, take, drop, slice_get, Option, Some, None, refl, sym, ap, subst, arith, append_assoc, add-one, length-append}
 use Rattle.std.specs.List.{flat_map}
 use Rattle.std.proofs.Math.ListN.{set}
 use Rattle.std.proofs.lemmas.Grind.{flat_map-append}
 use Rattle.std.proofs.lemmas.List.{drop_all}
+use Rattle.std.proofs.lemmas.Option.{slice_get_within}
 use Rattle.checkpoint_spec.proofs.of_plain_laws.Lists.{get_left}
 use Rattle.checkpoint_spec.specs.fleet_rows.Defaults.{default_ttls}
 use Rattle.checkpoint_spec.specs.fleet_rows.declared.row.Entity.{Entity}
@@ -11,12 +12,16 @@ use Rattle.checkpoint_spec.specs.fleet_rows.declared.row.Entity.TheVariants.{Nod
 use Rattle.checkpoint_spec.specs.fleet_rows.declared.settings.Ttls.{Ttls}
 use Rattle.checkpoint_spec.specs.table_machine.Rows.{node_rows}
 use Rattle.checkpoint_spec.specs.table_machine.Table.{Node}
-use Rattle.kept_nodes.specs.Counted.{plus, less, count_of, IsWithin, IsPart}
+use Rattle.kept_nodes.specs.Counted.{plus, less, counts, count_of, IsWithin, IsPart}
+use Rattle.kept_nodes.specs.Kept.{IsNode}
+use Rattle.kept_nodes.specs.Seen.{node_seen}
+use Rattle.kept_nodes.specs.declared.node.Node as kept
 use Rattle.fleet_tables.specs.Groups.{joined, rows_of, AreCountsOf, AreFew, IsRowOf}
 use Rattle.kept_nodes.specs.declared.counts.Counts.{Counts}
 use Rattle.kept_nodes.proofs.Counting.{count-plus}
 use Rattle.fleet_tables.proofs.JoinedNodes.{Groups, parted, parted_set, dropped, taken}
 use Rattle.fleet_tables.proofs.RowBounds.{counts_joined, few_part, few_counted}
+use Rattle.kept_nodes.proofs.RowCounts.{node_count}
 use Rattle.kept_nodes.proofs.RowPlaces.{get_right}
 
 -- ---- one group more is counted
@@ -111,7 +116,12 @@ module _ (entity : Entity) (nodes : List Node) (i : ℕ) (groups : Groups) (k j 
   pub row_here : j < count → IsRowOf entity nodes i g j
   row_here h = λ ttls expiry.
       let within : j < length (rows_of entity ttls expiry g) = omega (arith, h, counted ttls expiry) in
-      (within, (left ttls expiry).1 ∙ ap (λ l. slice_get l j) (parts ttls expiry) ∙ get_left (rows_of entity ttls expiry g) (rows_of entity ttls expiry rest) j within)
+      let f = rows_of entity ttls expiry in
+      let long = ap length (parts ttls expiry) ∙ length-append (f g) (f rest) in (
+        within,
+        (left ttls expiry).1 ∙ ap (λ l. slice_get l j) (parts ttls expiry) ∙ get_left (f g) (f rest) j within,
+        λ d lt. (left ttls expiry).2 d (omega (arith, lt, long)) ∙ ap (λ l. slice_get l (j + d)) (parts ttls expiry) ∙ get_left (f g) (f rest) (j + d) lt,
+      )
 
   row_rest : count ≤ j → IsRowOf entity nodes i rest (j - count)
   row_rest h = λ ttls expiry.
@@ -119,6 +129,11 @@ module _ (entity : Entity) (nodes : List Node) (i : ℕ) (groups : Groups) (k j 
       let place : j ≡ length (f g) + (j - count) = omega (arith, h, counted ttls expiry) in (
         omega (arith, h, counted ttls expiry, (left ttls expiry).0, ap length (parts ttls expiry), length-append (f g) (f rest)),
         (left ttls expiry).1 ∙ ap (λ l. slice_get l j) (parts ttls expiry) ∙ get_right (f g) (f rest) j (j - count) place,
+        λ d lt.
+            let further : j + d ≡ length (f g) + ((j - count) + d) = omega (arith, h, counted ttls expiry) in
+            (left ttls expiry).2 d (omega (arith, h, lt, counted ttls expiry, ap length (parts ttls expiry), length-append (f g) (f rest)))
+            ∙ ap (λ l. slice_get l (j + d)) (parts ttls expiry)
+            ∙ get_right (f g) (f rest) (j + d) ((j - count) + d) further,
       )
 
   pub row_behind : count ≤ j → IsRowOf entity nodes i (joined (drop (k + 1) groups)) (j - count)
@@ -128,3 +143,22 @@ pub no_row : (entity : Entity) (nodes : List Node) (i : ℕ) (groups : Groups) (
 no_row entity nodes i groups k j h row =
     let none : joined (drop k groups) ≡ [] = ap joined (drop_all k groups h) in
     omega (arith, (row default_ttls None).0, ap (λ (ns : List Node). length (rows_of entity default_ttls None ns)) none)
+
+-- ---- the rows behind a row
+
+-- what is there in one list is there in the other
+there_too : {X : Type 0} (xs ys : List X) (i j : ℕ) → slice_get xs i ≡ slice_get ys j → j < length ys → i < length xs
+there_too xs [] i j e h = absurd (omega (arith, h))
+there_too xs (y ∷ ys) i zero e h = slice_get_within xs i y e
+there_too xs (y ∷ ys) i (suc j) e h = there_too xs ys i j e (omega (arith, h))
+
+-- where row j of a part is row k of a node, the node's further rows are those of all nodes
+pub further_rows : (entity : Entity) (nodes part : List Node) (i j k : ℕ) (node : kept.Node) → IsRowOf entity nodes i part j → IsNode node
+    → ((ttls : Ttls) (expiry : Option ℤ) (d : ℕ) → k + d < count_of entity (counts node) → slice_get (rows_of entity ttls expiry part) (j + d) ≡ slice_get (node_rows entity ttls expiry (node_seen node)) (k + d))
+    → (ttls : Ttls) (expiry : Option ℤ) (d : ℕ) → k + d < count_of entity (counts node) → slice_get (rows_of entity ttls expiry nodes) (i + d) ≡ slice_get (node_rows entity ttls expiry (node_seen node)) (k + d)
+further_rows entity nodes part i j k node row kept own ttls expiry d lt =
+    let here = own ttls expiry d lt in
+    let number = node_count ttls expiry entity node kept in
+    let inside : k + d < length (node_rows entity ttls expiry (node_seen node)) = omega (arith, lt, number) in
+    let within = there_too (rows_of entity ttls expiry part) (node_rows entity ttls expiry (node_seen node)) (j + d) (k + d) here inside in
+    (row ttls expiry).2 d within ∙ here

@@ -86,4 +86,7 @@ row_from entity groups k before i le counted has = λ ttls expiry.
     let place : i ≡ length (f front) + (i - before) = omega (arith, le, counted ttls expiry) in (
       omega (arith, le, counted ttls expiry, has ttls expiry, ap length all, length-append (f front) (f behind)),
       ap (λ l. slice_get l i) all ∙ get_right (f front) (f behind) i (i - before) place,
+      λ d lt.
+          let further : i + d ≡ length (f front) + ((i - before) + d) = omega (arith, le, counted ttls expiry) in
+          ap (λ l. slice_get l (i + d)) all ∙ get_right (f front) (f behind) (i + d) ((i - before) + d) further,
     )

@@ -1,5 +1,5 @@
 -- Nodes in groups of neighbours, as the tables store them.
-use Rattle.std.specs.Prelude.{◌≡◌, ℕ, ℤ, ◌<◌, ◌≤◌, List, [], ◌∷◌, ◌++◌, Bool, false, length, flat_map, take, slice_get, Option, Some, IfSome}
+use Rattle.std.specs.Prelude.{◌≡◌, ℕ, ℤ, ◌+◌, ◌<◌, ◌≤◌, List, [], ◌∷◌, ◌++◌, Bool, false, length, flat_map, take, slice_get, Option, Some, IfSome}
 use Rattle.std.specs.List.{AllByRecursion}
 use Rattle.std.specs.List.Sorted.{IsStrictlySortedBy}
 use Rattle.std.specs.Ordering.{is_gt}
@@ -49,11 +49,14 @@ AreFew nodes = (entity : Entity) (ttls : Ttls) (expiry : Option ℤ) → length 
 abbrev pub HaveRow : Entity → ℕ → List Node → Type 0
 HaveRow entity i nodes = (ttls : Ttls) (expiry : Option ℤ) → i < length (rows_of entity ttls expiry nodes)
 
--- row i of the nodes is row j of a part of them
+-- row i of the nodes is row j of a part of them, and so on as far as the part has rows
 abbrev pub IsRowOf : Entity → List Node → ℕ → List Node → ℕ → Type 0
 IsRowOf entity nodes i part j =
     (ttls : Ttls) (expiry : Option ℤ)
-    → (j < length (rows_of entity ttls expiry part)) × (slice_get (rows_of entity ttls expiry nodes) i ≡ slice_get (rows_of entity ttls expiry part) j)
+    → (j < length (rows_of entity ttls expiry part))
+    × (slice_get (rows_of entity ttls expiry nodes) i ≡ slice_get (rows_of entity ttls expiry part) j)
+    × ((d : ℕ) → j + d < length (rows_of entity ttls expiry part)
+    → slice_get (rows_of entity ttls expiry nodes) (i + d) ≡ slice_get (rows_of entity ttls expiry part) (j + d))
 
 -- so many rows stand before the group at this place
 abbrev pub AreBefore : Entity → List (List Node) → ℕ → ℕ → Type 0

@@ -2,7 +2,7 @@
 //!
 //! The tables keep their nodes by certname in groups. A new node, or one whose number of rows changes, moves and recounts only
 //! the nodes of its group. Each node stores the numbers of rows before it in the group, so a binary search finds a row.
-ghost use Rattle.std.specs.Prelude.{◌≡◌, ℤ, ◌==◌, ◌<◌, ◌≤◌, ◌^◌, ◌++◌, [], Option, false, length, map, take, drop, slice_get, IfOk, IfSome, OnErr};
+ghost use Rattle.std.specs.Prelude.{◌≡◌, ℕ, ℤ, ◌==◌, ◌<◌, ◌≤◌, ◌^◌, ◌+◌, ◌++◌, [], Option, false, length, map, take, drop, slice_get, IfOk, IfSome, OnErr};
 ghost use Rattle.std.specs.List.{AllByRecursion};
 ghost use Rattle.std.specs.Option.{option_and_then, option_map, option_map_or};
 ghost use Rattle.checkpoint_spec.specs.fleet_rows.Change.{change_stamp, change_certname};
@@ -191,6 +191,8 @@ impl Group {
         ensures within { result.1 < count_of entity (counts result.0.now) }
         ensures row { (ttls : Ttls) (expiry : Option ℤ)
             → slice_get (rows_of entity ttls expiry self.now) i ≡ slice_get (node_rows entity ttls expiry (node_seen result.0.now)) result.1 }
+        ensures rows { (ttls : Ttls) (expiry : Option ℤ) (d : ℕ) → result.1 + d < count_of entity (counts result.0.now)
+            → slice_get (rows_of entity ttls expiry self.now) (i + d) ≡ slice_get (node_rows entity ttls expiry (node_seen result.0.now)) (result.1 + d) }
     {
         let at = node_of_row(self.nodes.as_slice(), entity, i);
         let node: &Node = &self.nodes[at];

@@ -1,5 +1,5 @@
 //! Stores the data of the tables, without an allocator of their own.
-ghost use Rattle.std.specs.Prelude.{◌≡◌, ◌<◌, ◌^◌, length, slice_get, Some, None, IfOk, IfErr, IfSome, OnOk};
+ghost use Rattle.std.specs.Prelude.{◌≡◌, ℕ, ◌<◌, ◌+◌, ◌^◌, length, slice_get, Some, None, IfOk, IfErr, IfSome, OnOk};
 ghost use Rattle.std.specs.Option.{option_map};
 ghost use Rattle.checkpoint_spec.specs.stamp_time.Range.{IsStampMoment};
 ghost use Rattle.checkpoint_spec.specs.fleet_rows.Change.{change_certname};
@@ -258,6 +258,8 @@ impl State {
         ensures within { result.1 < count_of entity (counts result.0.now) }
         ensures row { slice_get (table_rows entity self.now) i
             ≡ slice_get (node_rows entity self.now.ttls self.now.expiry (node_seen result.0.now)) result.1 }
+        ensures rows { (d : ℕ) → result.1 + d < count_of entity (counts result.0.now) → slice_get (table_rows entity self.now) (i + d)
+            ≡ slice_get (node_rows entity self.now.ttls self.now.expiry (node_seen result.0.now)) (result.1 + d) }
     {
         let (at, place) = groups::group_of_row(
             self.groups.as_slice(),

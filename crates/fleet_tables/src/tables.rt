@@ -1,5 +1,5 @@
 //! The public calls of the tables.
-ghost use Rattle.std.specs.Prelude.{◌≡◌, ◌<◌, ◌+◌, ◌∷◌, [], length, slice_get, IfOk, IfErr};
+ghost use Rattle.std.specs.Prelude.{◌≡◌, ℕ, ◌<◌, ◌+◌, ◌∷◌, [], length, slice_get, IfOk, IfErr};
 ghost use Rattle.checkpoint_spec.specs.stamp_time.Range.{IsStampMoment};
 ghost use Rattle.checkpoint_spec.specs.history_spec.Lawful.{IsChange};
 ghost use Rattle.checkpoint_spec.specs.history_spec.Trace.{Trace, IsTrace, applied_as, applied, swept};
@@ -157,8 +157,8 @@ impl Tables {
         self.state.row(self.alloc, entity, i)
     }
 
-    /// The node with row i of an entity other than `nodes`, and the index of the row among the node's rows. It counts as one step.
-    /// It takes no memory.
+    /// The node with row i of an entity other than `nodes`, and the index of the row among the node's rows. The node's further rows are
+    /// the rows behind row i. It counts as one step. It takes no memory.
     pub fn node_at<L: Ledger>(
         &self,
         entity: Entity,
@@ -171,6 +171,8 @@ impl Tables {
         ensures within { result.1 < count_of entity (counts result.0.now) }
         ensures row { slice_get (table_rows entity self.now) i
             ≡ slice_get (node_rows entity self.now.ttls self.now.expiry (node_seen result.0.now)) result.1 }
+        ensures rows { (d : ℕ) → result.1 + d < count_of entity (counts result.0.now) → slice_get (table_rows entity self.now) (i + d)
+            ≡ slice_get (node_rows entity self.now.ttls self.now.expiry (node_seen result.0.now)) (result.1 + d) }
     {
         steps.tick();
         self.state.node_at(entity, i)

@@ -1,4 +1,4 @@
-use Rattle.std.proofs.Common.{◌≡◌, ◌∙◌, ℕ, ℤ, List, ◌<◌, ◌-◌, get_or, slice_get, Option, None, Some, length, refl, sym, ap, subst, arith}
+use Rattle.std.proofs.Common.{◌≡◌, ◌∙◌, ℕ, List, ◌<◌, ◌+◌, ◌-◌, get_or, slice_get, None, Some, length, refl, sym, ap, subst, arith}
 use Rattle.std.specs.List.{flat_map}
 use Rattle.std.specs.declared.alloc.Global.{Global}
 use Rattle.std.specs.declared.boxed.Box.{Box}
@@ -7,7 +7,7 @@ use Rattle.checkpoint_spec.specs.fleet_rows.declared.row.Entity.{Entity}
 use Rattle.checkpoint_spec.specs.table_machine.Rows.{node_rows}
 use Rattle.checkpoint_spec.specs.table_machine.Table as machine
 use Rattle.fleet_tables.specs.Groups.{rows_of}
-use Rattle.kept_nodes.specs.Counted.{none, counts, count_of, total_from, AreCountedFrom}
+use Rattle.kept_nodes.specs.Counted.{none, counts, count_of, total_from}
 use Rattle.kept_nodes.specs.Places.{nodes_in, Boxes, HasRow}
 use Rattle.kept_nodes.specs.Seen.{node_seen}
 use Rattle.kept_nodes.specs.declared.node.Node.{Node}
@@ -65,3 +65,19 @@ returns-clause-row c = λ ttls expiry.
     ap (λ (ns : List machine.Node). slice_get (flat_map (node_rows entity ttls expiry) ns) c.args.i) (sym c.self.view_is)
     ∙ row_of_node ttls expiry entity (nodes_in boxes) c.node_of_row-at.result b.value c.args.i c.self.invariant.0 c.self.invariant.2 kept p.there p.row
     ∙ (λ j. slice_get (node_rows entity ttls expiry (node_seen (sym c.deref-node.ensures j))) (c.args.i - sym before j))
+
+pub returns-clause-rows : goal.returns-clause-rows
+returns-clause-rows c = λ ttls expiry d lt.
+    let boxes = c.self.inside.nodes.items in
+    let entity = c.args.entity in
+    let b = c.index.result.now in
+    let p = place boxes c.as_slice.result.now entity c.args.i c.node_of_row-at.result b c.as_slice.ensures.value c.node_of_row-at.ensures.place c.node_of_row-at.ensures.row c.index.ensures in
+    let before = c.of.ensures ∙ ap (λ (n : Node). count_of entity n.before) c.deref-node.ensures in
+    let number = ap (λ (n : Node). count_of entity (counts n)) c.deref-node.ensures in
+    let kept = box_kept boxes c.node_of_row-at.result b b.value c.self.invariant.0 p.within c.index.ensures refl in
+    let further : HasRow entity (c.args.i + d) b.value = (omega (arith, p.row.0), omega (arith, p.row.0, p.row.1, before, number, lt)) in
+    let same : (c.args.i + d) - count_of entity b.value.before ≡ (c.args.i - count_of entity b.value.before) + d = omega (arith, p.row.0) in
+    ap (λ (ns : List machine.Node). slice_get (flat_map (node_rows entity ttls expiry) ns) (c.args.i + d)) (sym c.self.view_is)
+    ∙ row_of_node ttls expiry entity (nodes_in boxes) c.node_of_row-at.result b.value (c.args.i + d) c.self.invariant.0 c.self.invariant.2 kept p.there further
+    ∙ ap (slice_get (node_rows entity ttls expiry (node_seen b.value))) same
+    ∙ (λ j. slice_get (node_rows entity ttls expiry (node_seen (sym c.deref-node.ensures j))) ((c.args.i - sym before j) + d))
