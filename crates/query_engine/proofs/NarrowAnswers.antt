@@ -6,6 +6,7 @@ use Rattle.std.specs.declared.cmp.Ordering.TheVariants as ordering
 use Rattle.std.specs.Ordering.{is_gt, ordering_then, ordering_reverse}
 use Rattle.std.specs.List.{list_any}
 use Rattle.std.proofs.lemmas.List.{length-map, map-append}
+use Rattle.fleet_tables.proofs.of_plain_laws.Booleans.{or_falses}
 use Rattle.fleet_tables.specs.fleet_rows.Cell.{CellValue, cell_cmp}
 use Rattle.fleet_tables.specs.fleet_rows.declared.row.Entity.{Entity}
 use Rattle.query_plan.specs.means_spec.Cells.{cell_in, cell_under, names_in, same_cells}
@@ -27,11 +28,11 @@ use Rattle.query_plan.specs.table_spec.Rows.{Cells}
 use Rattle.query_plan.specs.table_spec.Sorted.{insert_by, sorted_by}
 use Rattle.query_reading.specs.Narrow.{is_made}
 use Rattle.query_reading.proofs.NarrowLaws.{cell_alike, none_first, none_rest}
-use Rattle.row_views.specs.Narrow.{narrowed, referred}
-use Rattle.query_engine.specs.Answers.{IsAnswered}
+use Rattle.level_answers.specs.row_views.Narrow.{narrowed, referred}
+use Rattle.level_answers.specs.Levels.{IsAnswered}
 use Rattle.query_engine.specs.Narrow.{IsNarrowFor, answer_makes, lines_as, name_makes, order_makes, selected_makes}
-use Rattle.query_engine.specs.declared.answer.Answered.{Answered}
-use Rattle.query_engine.specs.declared.answer.Answered.TheVariants as answer
+use Rattle.level_answers.specs.declared.answer.Answered.{Answered}
+use Rattle.level_answers.specs.declared.answer.Answered.TheVariants as answer
 
 -- ---- rows that are mapped
 
@@ -120,9 +121,6 @@ narrowed_none : (flags : List Bool) → narrowed flags [] ≡ []
 narrowed_none [] = refl
 narrowed_none (b ∷ bs) = refl
 
-both_none : (a b : Bool) → a ≡ false → b ≡ false → (a || b) ≡ false
-both_none a b h k = ap (λ t. t || b) h ∙ k
-
 module _ (e : Entity) where
   abbrev E : Option Entity
   E = Some e
@@ -166,7 +164,7 @@ module _ (e : Entity) where
   none_if : (t : Bool) (s : Selected) (xs ys : List Selected) → selected_makes e s ≡ false → list_any (selected_makes e) xs ≡ false → list_any (selected_makes e) ys ≡ false
       → list_any (selected_makes e) (if t then xs else s ∷ ys) ≡ false
   none_if true s xs ys a b c = b
-  none_if false s xs ys a b c = both_none (selected_makes e s) (list_any (selected_makes e) ys) a c
+  none_if false s xs ys a b c = or_falses (selected_makes e s) (list_any (selected_makes e) ys) a c
 
   distinct_none : (earlier ss : List Selected) → list_any (selected_makes e) ss ≡ false → list_any (selected_makes e) (distinct_behind earlier ss) ≡ false
   distinct_none earlier [] h = refl

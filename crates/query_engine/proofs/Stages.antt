@@ -10,10 +10,10 @@ use Rattle.query_plan.specs.means_spec.World.{World}
 use Rattle.query_plan.specs.Plan.{Shape, Stage, whole, answers, shaped, shaped_sum, chosen_rows, stage_rows, stage_sum, solved, solved_sum}
 use Rattle.fleet_tables.specs.fleet_rows.declared.row.Entity.{Entity}
 use Rattle.query_reach.specs.Pins.{stage_reads, stages_read}
-use Rattle.query_engine.specs.Answers.{IsAnswered, IsStageAnswered}
+use Rattle.level_answers.specs.Levels.{IsAnswered, IsStageAnswered}
 use Rattle.query_reading.specs.Stopping.{IsEnough, first_of}
-use Rattle.query_engine.specs.declared.answer.Answered.{Answered}
-use Rattle.query_engine.specs.declared.answer.Answered.TheVariants.{Rows, TooLarge}
+use Rattle.level_answers.specs.declared.answer.Answered.{Answered}
+use Rattle.level_answers.specs.declared.answer.Answered.TheVariants.{Rows, TooLarge}
 
 -- ---- the answer of a stage from the first of the rows that it chooses
 

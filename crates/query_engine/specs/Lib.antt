@@ -1,9 +1,3 @@
-pub mod Counting
-pub mod Added
-pub mod Best
-pub mod Grouped
-pub mod Begun
-pub mod Fitting
 pub mod Answers
 pub mod Courses
 pub mod Narrow

@@ -9,7 +9,7 @@ use Rattle.query_plan.specs.query_spec.declared.parts.Selected.{Selected}
 use Rattle.query_plan.specs.query_spec.declared.parts.Selected.TheVariants as selected
 use Rattle.query_plan.specs.table_spec.Rows.{Cells}
 use Rattle.query_reading.specs.Narrow.{is_made}
-use Rattle.row_views.specs.Narrow.{shown_as}
+use Rattle.level_answers.specs.row_views.Narrow.{shown_as}
 
 module _ (e : Entity) where
   -- the column would have to be made

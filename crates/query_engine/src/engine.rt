@@ -11,20 +11,18 @@ ghost use Rattle.query_plan.specs.Made.{IsPlanOf, stage_of, stages_of, patterns_
 ghost use Rattle.query_plan.specs.Plan.{level_patterns, pattern_texts};
 ghost use Rattle.query_reach.specs.Reach.{level_bound};
 ghost use Rattle.query_reach.specs.Pins.{stage_reads, stages_read};
-ghost use Rattle.query_engine.specs.Answers.{IsStageAnswered, IsSolved, MatchPicked, IsBadPattern, IsPatternFault, AreAsked};
+ghost use Rattle.level_answers.specs.Levels.{IsStageAnswered};
+ghost use Rattle.query_engine.specs.Answers.{IsSolved, MatchPicked, IsBadPattern, IsPatternFault, AreAsked};
 ghost use Rattle.query_engine.specs.Courses.{HasRead, IsCourse};
 ghost use Rattle.query_rows.specs.Tries.{HasTried};
 ghost use Rattle.query_rows.specs.Tables.{world_of};
 ghost use Rattle.query_reading.specs.declared.reading.Reading.TheVariants.{InReach};
 ghost use Rattle.query_engine.specs.declared.engine.QueryFault.TheVariants.{Memory};
 
-use crate::answer::Answered;
-use crate::counting::counted;
 use crate::narrow::{answer_from, whole_from};
-use crate::shown::output_names;
 use fleet_tables::fleet_rows::Names;
 use fleet_tables::{Steps, Tables};
-use paging_text::OutRows;
+use level_answers::{Answered, OutRows, counted, output_names};
 use pattern_port::{PatternFault, Patterns};
 use query_plan::ast_tree::{Level, Query, entity_of};
 use query_plan::query_spec::{Path, Pattern, Place};

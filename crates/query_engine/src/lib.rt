@@ -25,14 +25,8 @@
 //! seen by reference, as a hash; otherwise what is seen of it is copied. An array of more than eight literals is indexed.
 #![tactic(auto)]
 
-mod answer;
-mod counting;
 mod engine;
-mod functions;
-mod groups;
 mod narrow;
-mod shown;
-mod sums;
 
 pub use engine::{Picked, QueryFault, select, select_reading, select_uncounted};
 pub use query_reading::Reading;

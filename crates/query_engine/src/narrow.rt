@@ -1,17 +1,16 @@
 //! Makes an answer from narrow rows, where it reads only columns that are seen by reference.
 ghost use Rattle.std.specs.Prelude.{◌≡◌, false, IfOk, IfSome};
 ghost use Rattle.std.specs.List.{list_any};
-ghost use Rattle.query_engine.specs.Answers.{IsAnswered};
+ghost use Rattle.level_answers.specs.Levels.{IsAnswered};
 ghost use Rattle.query_engine.specs.Narrow.{IsNarrowFor, answer_makes, lines_as, name_makes, order_makes, selected_makes};
-ghost use Rattle.query_engine.specs.declared.answer.Answered.TheVariants as answers;
+ghost use Rattle.level_answers.specs.declared.answer.Answered.TheVariants as answers;
 ghost use Rattle.query_reading.specs.Narrow.{is_made};
 
-use crate::answer::{Answered, answer_of};
 use fleet_tables::fleet_rows::Entity;
-use paging_text::Lines;
+use level_answers::{Answered, KeptRows, Lines, View, group_answer, is_referred, page_answer};
 use pattern_port::Keys;
+use query_plan::ast_tree::{makes_groups, shown_list};
 use query_plan::query_spec::{Name, Order, Paging, Selected, Selection};
-use row_views::{KeptRows, is_referred};
 use std::alloc::{AllocError, Global};
 
 // Whether the column would have to be made.
@@ -123,6 +122,20 @@ fn lines_for(alloc: Global, narrow: Option<Entity>, rows: KeptRows<'_>) -> Resul
     }
 }
 
+// The rows as they are seen for the answer: narrow or whole.
+fn views_for<'a>(
+    alloc: Global,
+    narrow: Option<Entity>,
+    rows: &'a KeptRows<'_>,
+) -> Result<Vec<View<'a>>, AllocError>
+    ensures { IfOk result (λ views. views.items ≡ lines_as narrow rows.now) }
+{
+    match narrow {
+        Some(entity) => rows.views(alloc, entity, true),
+        None => rows.views(alloc, Entity::Nodes, false),
+    }
+}
+
 /// The answer from these selected rows of the entity. Columns that it doesn't read aren't made, as far as rows are seen by
 /// reference without them.
 pub(crate) fn answer_from<'q>(
@@ -137,8 +150,13 @@ pub(crate) fn answer_from<'q>(
     ensures { IfOk result (IsAnswered entity shown.now group.now paging.now rows.entry) }
 {
     let narrow = narrow_for(entity, shown, group, paging);
-    let lines = lines_for(alloc, narrow, rows)?;
-    answer_of(alloc, keys, entity, shown, group, paging, lines)
+    if makes_groups(shown_list(shown), group) {
+        let views = views_for(alloc, narrow, &rows)?;
+        group_answer(alloc, keys, entity, shown, group, paging, views.as_slice())
+    } else {
+        let lines = lines_for(alloc, narrow, rows)?;
+        page_answer(alloc, entity, shown, group, paging, lines)
+    }
 }
 
 /// The selected rows, made whole.

@@ -1,18 +1,15 @@
 -- Rows of one group have one text, and so one number.
-use Rattle.std.proofs.Common.{◌≡◌, ◌∙◌, ℕ, ◌+◌, ◌<◌, List, [], ◌∷◌, ◌++◌, true, Some, refl, sym, ap, subst, inl, inr, drop, get_or, length}
-use Rattle.std.proofs.lemmas.List.{drop_more}
+use Rattle.std.proofs.Common.{◌≡◌, ◌∙◌, ℕ, zero, suc, ◌+◌, ◌<◌, List, [], ◌∷◌, ◌++◌, true, Some, refl, sym, ap, subst, inl, inr, drop, get_or, length}
+use Rattle.std.proofs.lemmas.List.{drop_more, map-append}
 use Rattle.std.specs.Cmp.{signed_Decides}
-use Rattle.std.specs.HashSet.{HashSet}
-use Rattle.std.specs.Prelude.{unwrap_or}
-use Rattle.std.specs.declared.alloc.Global.{Global}
-use Rattle.std.specs.declared.vec.Vec.{Vec}
+use Rattle.std.specs.Prelude.{slice_get, unwrap_or}
 use Rattle.fleet_tables.proofs.of_plain_laws.Booleans.{both_true}
 use Rattle.fleet_tables.specs.fleet_rows.Cell.{CellValue}
-use Rattle.pattern_port.specs.declared.keys.Keys.{Keys}
 use Rattle.query_plan.specs.means_spec.Cells.{same_cell, same_cells}
+use Rattle.query_plan.specs.means_spec.Groups.{in_one_group}
 use Rattle.same_text.proofs.AlikeLaws.{one_text}
 use Rattle.query_plan.specs.table_spec.Rows.{Cells}
-use Rattle.query_rows.specs.Marked.{cell_text, key_text, number_of, row_marked, rows_marked, HaveMarks, AreMarked}
+use Rattle.query_rows.specs.Marked.{cell_text, key_text, number_of, row_marked, rows_marked, HaveMarks, HaveNumbers, AreMarked, Numbers}
 use Rattle.query_rows.specs.declared.marks.Marked.{Marked}
 
 -- ---- texts
@@ -33,38 +30,45 @@ one_key_text (x ∷ xs) (y ∷ ys) h =
 
 -- ---- marks
 
-abbrev Numbers : Type 0
-Numbers = HashSet (Vec ℕ Global) Keys
-
 module _ (key : Cells → Cells) where
-  -- the mark of each is the number of its text
-  abbrev pub HaveNumbers : Numbers → List Marked → Type 0
-  HaveNumbers texts [] = Unit {0}
-  HaveNumbers texts (m ∷ ms) = (number_of texts (key_text (key (row_marked m))) ≡ Some m.mark) × HaveNumbers texts ms
-
-  numbers-kept : (old new : Numbers) → ((cs : List ℕ) (v : ℕ) → number_of old cs ≡ Some v → number_of new cs ≡ Some v) → (ms : List Marked) → HaveNumbers old ms → HaveNumbers new ms
+  pub numbers-kept : (old new : Numbers) → ((cs : List ℕ) (v : ℕ) → number_of old cs ≡ Some v → number_of new cs ≡ Some v) → (ms : List Marked) → HaveNumbers key old ms → HaveNumbers key new ms
   numbers-kept old new kept [] h = tt
   numbers-kept old new kept (m ∷ ms) h = (kept (key_text (key (row_marked m))) m.mark h.0, numbers-kept old new kept ms h.1)
 
-  numbers-push : (texts : Numbers) (ms : List Marked) (m : Marked) → HaveNumbers texts ms → number_of texts (key_text (key (row_marked m))) ≡ Some m.mark → HaveNumbers texts (ms ++ m ∷ [])
+  numbers-push : (texts : Numbers) (ms : List Marked) (m : Marked) → HaveNumbers key texts ms → number_of texts (key_text (key (row_marked m))) ≡ Some m.mark → HaveNumbers key texts (ms ++ m ∷ [])
   numbers-push texts [] m h one = (one, tt)
   numbers-push texts (x ∷ ms) m h one = (h.0, numbers-push texts ms m h.1 one)
 
   -- one row more
   pub numbers_on : (old new : Numbers) (ms more : List Marked) (m : Marked) → more ≡ ms ++ m ∷ [] → ((cs : List ℕ) (v : ℕ) → number_of old cs ≡ Some v → number_of new cs ≡ Some v)
-      → number_of new (key_text (key (row_marked m))) ≡ Some m.mark → HaveNumbers old ms → HaveNumbers new more
-  numbers_on old new ms more m is kept one h = subst (HaveNumbers new) (sym is) (numbers-push new ms m (numbers-kept old new kept ms h) one)
+      → number_of new (key_text (key (row_marked m))) ≡ Some m.mark → HaveNumbers key old ms → HaveNumbers key new more
+  numbers_on old new ms more m is kept one h = subst (HaveNumbers key new) (sym is) (numbers-push new ms m (numbers-kept old new kept ms h) one)
 
-  marks-have : (texts : Numbers) (ms : List Marked) → HaveNumbers texts ms → HaveMarks (λ x. unwrap_or (number_of texts (key_text (key x))) 0) ms
+  number_at : (texts : Numbers) (ms : List Marked) (at : ℕ) (m : Marked) → HaveNumbers key texts ms → slice_get ms at ≡ Some m → number_of texts (key_text (key (row_marked m))) ≡ Some m.mark
+  number_at texts [] at m h e = cc
+  number_at texts (x ∷ ms) zero m h e =
+      let same : x ≡ m = cc in
+      subst (λ (y : Marked). number_of texts (key_text (key (row_marked y))) ≡ Some y.mark) same h.0
+  number_at texts (x ∷ ms) (suc at) m h e = number_at texts ms at m h.1 e
+
+  -- a row has the mark of a row of its group
+  pub number_like : (texts : Numbers) (ms : List Marked) (at : ℕ) (m : Marked) (row : Cells) → HaveNumbers key texts ms → slice_get ms at ≡ Some m → in_one_group key row (row_marked m) ≡ true
+      → number_of texts (key_text (key row)) ≡ Some m.mark
+  number_like texts ms at m row h there e = ap (number_of texts) (one_key_text (key row) (key (row_marked m)) e) ∙ number_at texts ms at m h there
+
+  marks-have : (texts : Numbers) (ms : List Marked) → HaveNumbers key texts ms → HaveMarks (λ x. unwrap_or (number_of texts (key_text (key x))) 0) ms
   marks-have texts [] h = tt
   marks-have texts (m ∷ ms) h = (sym (ap (λ o. unwrap_or o 0) h.0), marks-have texts ms h.1)
 
-  pub are_marked : (texts : Numbers) (ms : List Marked) → HaveNumbers texts ms → AreMarked key ms
+  pub are_marked : (texts : Numbers) (ms : List Marked) → HaveNumbers key texts ms → AreMarked key ms
   are_marked texts ms h = record {
     mark = λ x. unwrap_or (number_of texts (key_text (key x))) 0;
     is_mark = λ x y e. ap (λ text. unwrap_or (number_of texts text) 0) (one_key_text (key x) (key y) e);
     have = marks-have texts ms h;
   }
+
+pub marked_on : (old more : List Marked) (m : Marked) → more ≡ old ++ m ∷ [] → rows_marked more ≡ rows_marked old ++ row_marked m ∷ []
+marked_on old more m e = ap rows_marked e ∙ map-append row_marked old (m ∷ [])
 
 module _ (b : Cells → ℕ) where
   pub marks-push : (ms : List Marked) (m : Marked) → HaveMarks b ms → m.mark ≡ b (row_marked m) → HaveMarks b (ms ++ m ∷ [])

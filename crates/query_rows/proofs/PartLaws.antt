@@ -8,7 +8,6 @@ use Rattle.std.proofs.lemmas.List.{map-append}
 use Rattle.std.proofs.lemmas.List.Elements.{filter-append}
 use Rattle.std.proofs.lemmas.Map.Views.{any-filter_same}
 use Rattle.std.proofs.lemmas.Option.{slice_get-get_or}
-use Rattle.fleet_tables.specs.fleet_rows.declared.row.Cell.{Cell}
 use Rattle.query_plan.specs.means_spec.Groups.{in_one_group}
 use Rattle.query_plan.specs.table_spec.Rows.{Cells}
 use Rattle.query_rows.specs.Referred.{row_of, rows_of}
@@ -29,7 +28,7 @@ get-set_other (y ∷ xs) zero (suc q) x apart = refl
 get-set_other (y ∷ xs) (suc i) zero x apart = refl
 get-set_other (y ∷ xs) (suc i) (suc q) x apart = get-set_other xs i q x (λ e. apart (ap suc e))
 
-module _ (ps : List Part) (i : ℕ) (p new : Part) (row : Bor (List Cell)) (lt : i < length ps) (is : p ≡ get_or ps i p) (pushed : new.rows.items ≡ p.rows.items ++ row ∷ []) where
+module _ (ps : List Part) (i : ℕ) (p new : Part) (row : Bor Cells) (lt : i < length ps) (is : p ≡ get_or ps i p) (pushed : new.rows.items ≡ p.rows.items ++ row ∷ []) where
   set_here : part_at (set ps i new) i ≡ part_at ps i ++ row_of row ∷ []
   set_here =
       ap rows_there (get-set_same ps i new lt)

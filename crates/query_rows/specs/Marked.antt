@@ -38,6 +38,14 @@ rows_marked = map row_marked
 abbrev pub IsMark : (Cells → Cells) → (Cells → ℕ) → Type 0
 IsMark key b = (x y : Cells) → in_one_group key x y ≡ true → b x ≡ b y
 
+abbrev pub Numbers : Type 0
+Numbers = HashSet (Vec ℕ Global) Keys
+
+-- the mark of each is the number of its text
+abbrev pub HaveNumbers : (Cells → Cells) → Numbers → List Marked → Type 0
+HaveNumbers key texts [] = Unit {0}
+HaveNumbers key texts (m ∷ ms) = (number_of texts (key_text (key (row_marked m))) ≡ Some m.mark) × HaveNumbers key texts ms
+
 -- each row has its mark
 abbrev pub HaveMarks : (Cells → ℕ) → List Marked → Type 0
 HaveMarks b [] = Unit {0}

@@ -199,7 +199,7 @@ pub(crate) fn has_state(inactive: bool, literal: &Scalar) -> bool
 }
 
 /// Whether the value is null.
-pub(crate) fn is_null(seen: &Seen<'_>) -> bool
+pub fn is_null(seen: &Seen<'_>) -> bool
     ensures { result ≡ is_null_cell (seen_value seen.now) }
 {
     match seen {
@@ -247,7 +247,7 @@ fn same_as_flag(flag: bool, cell: &Cell) -> bool
 }
 
 /// Whether the value is the same as a cell.
-pub fn same_cell(seen: &Seen<'_>, cell: &Cell) -> bool
+pub(crate) fn same_cell(seen: &Seen<'_>, cell: &Cell) -> bool
     ensures { result ≡ same_cell (seen_value seen.now) (cell_of cell.now) }
 {
     match seen {
@@ -261,5 +261,65 @@ pub fn same_cell(seen: &Seen<'_>, cell: &Cell) -> bool
             Cell::Plain(Json::Null) => true,
             _ => false,
         },
+    }
+}
+
+fn same_json(seen: &Seen<'_>, json: &Json) -> bool
+    ensures { result ≡ same_cell (seen_value seen.now) (plain (json_of json.now)) }
+{
+    match seen {
+        Seen::Cell(Cell::Stamp(_)) => false,
+        Seen::Cell(Cell::Plain(first)) => same(first, json),
+        Seen::Value(first) => same(first, json),
+        Seen::Text(text) => is_same_text(text, json),
+        Seen::Flag(flag) => is_same_flag(*flag, json),
+        Seen::Stamp(_) => false,
+        Seen::Null => match json {
+            Json::Null => true,
+            _ => false,
+        },
+    }
+}
+
+fn is_same_flag(flag: bool, json: &Json) -> bool
+    ensures { result ≡ same (boolean flag) (json_of json.now) }
+{
+    match json {
+        Json::Bool(other) => flag == *other,
+        _ => false,
+    }
+}
+
+fn is_same_text(text: &Text, json: &Json) -> bool
+    ensures { result ≡ same (string text.now) (json_of json.now) }
+{
+    match json {
+        Json::Text(other) => text.as_str() == other.as_str(),
+        _ => false,
+    }
+}
+
+fn same_as_seen_text(seen: &Seen<'_>, text: &Text) -> bool
+    ensures { result ≡ same_cell (seen_value seen.now) (plain (string text.now)) }
+{
+    match seen {
+        Seen::Cell(Cell::Plain(Json::Text(first))) => first.as_str() == text.as_str(),
+        Seen::Value(Json::Text(first)) => first.as_str() == text.as_str(),
+        Seen::Text(first) => first.as_str() == text.as_str(),
+        _ => false,
+    }
+}
+
+/// Whether two values are the same.
+pub fn same_seen(a: &Seen<'_>, b: &Seen<'_>) -> bool
+    ensures { result ≡ same_cell (seen_value a.now) (seen_value b.now) }
+{
+    match b {
+        Seen::Cell(cell) => same_cell(a, cell),
+        Seen::Value(json) => same_json(a, json),
+        Seen::Text(text) => same_as_seen_text(a, text),
+        Seen::Flag(flag) => same_cell(a, &Cell::Plain(Json::Bool(*flag))),
+        Seen::Stamp(nanos) => same_cell(a, &Cell::Stamp(Moment::from_nanosecond(*nanos))),
+        Seen::Null => is_null(a),
     }
 }

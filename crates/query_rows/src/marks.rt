@@ -4,23 +4,25 @@
 //! order has other values between them. So each row gets a text of the cells that it is grouped by, which is equal for cells that
 //! are the same ([`same_text`]). The row's mark is the number of that text. Rows with the same mark are still compared.
 //!
-//! Numbers are found by a hash of the text. The caller passes its keys: if they are random, nobody can choose texts that collide.
-ghost use Rattle.std.specs.Prelude.{◌≡◌, ◌++◌, ℕ, List, IfOk, OnOk, Some};
+//! Numbers are found by a hash of the text. The caller passes its keys: if they are random, nobody can choose texts that collide. A row
+//! that is in one group with the row before it, or with the row that began the next mark, has that mark without a text.
+ghost use Rattle.std.specs.Prelude.{◌≡◌, ◌++◌, ℕ, List, IfOk, IfSome, OnOk, Some};
 ghost use Rattle.std.specs.Fmt.{signed_decimal};
-ghost use Rattle.fleet_tables.specs.fleet_rows.Cell.{cells_of, plain};
+ghost use Rattle.fleet_tables.specs.fleet_rows.Cell.{plain};
 ghost use Rattle.same_text.specs.text_spec.Json.{boolean};
-ghost use Rattle.query_plan.specs.means_spec.Groups.{key_of};
+ghost use Rattle.query_plan.specs.means_spec.Groups.{in_one_group, key_of};
 ghost use Rattle.paging_text.specs.Shown.{cell_or_null};
 ghost use Rattle.row_views.specs.Seen.{seen_value};
-ghost use Rattle.query_rows.specs.Marked.{cell_text, key_text, number_of, rows_marked, AreMarked};
+ghost use Rattle.query_rows.specs.Marked.{cell_text, key_text, number_of, rows_marked, AreMarked, HaveNumbers, Numbers};
 
-use fleet_tables::fleet_rows::{Cell, Cells, Entity};
+use crate::compare::same_seen;
+use fleet_tables::fleet_rows::{Cell, Entity};
 use fleet_tables::stamp_time::Moment;
 use indexmap::IndexSet;
 use itoa::Buffer;
 use pattern_port::Keys;
 use query_plan::query_spec::Name;
-use row_views::{Seen, cell_in};
+use row_views::{Seen, View};
 use same_text::append_same;
 use same_text::json_tree::append_quoted;
 use std::alloc::{AllocError, Global};
@@ -28,7 +30,7 @@ use std::alloc::{AllocError, Global};
 /// A row and its mark.
 #[derive(Drop)]
 pub struct Marked<'a> {
-    pub row: &'a [Cell],
+    pub row: &'a View<'a>,
     pub mark: usize,
 }
 
@@ -88,13 +90,13 @@ fn text_of(
     alloc: Global,
     entity: Option<Entity>,
     columns: &[Name],
-    row: &[Cell],
+    row: &View<'_>,
 ) -> Result<Vec<u8>, AllocError>
-    ensures { IfOk result (λ text. text.items ≡ key_text (key_of entity columns.now (cells_of row.now))) }
+    ensures { IfOk result (λ text. text.items ≡ key_text (key_of entity columns.now row.now)) }
 {
     let mut text = Vec::new(alloc);
     for column in columns {
-        append_cell(alloc, &mut text, cell_in(entity, column.text.as_str(), row))?;
+        append_seen(alloc, &mut text, &row.seen(entity, column.text.as_str()))?;
         text.push(b',')?;
     }
     Ok(text)
@@ -119,24 +121,109 @@ pub(crate) fn known_number(texts: &IndexSet<Vec<u8>, Keys>, text: &[u8]) -> Opti
     texts.get_index_of(text)
 }
 
+/// Whether two rows are the same in the columns that they are grouped by.
+pub fn in_one_group(entity: Option<Entity>, columns: &[Name], a: &View<'_>, b: &View<'_>) -> bool
+    ensures { result ≡ in_one_group (key_of entity columns.now) a.now b.now }
+{
+    for column in columns {
+        let name = column.text.as_str();
+        if !same_seen(&a.seen(entity, name), &b.seen(entity, name)) {
+            return false;
+        }
+    }
+    true
+}
+
+// The mark of the row at this index among those that began a mark, if it is in one group with that row.
+fn guessed(
+    entity: Option<Entity>,
+    columns: &[Name],
+    row: &View<'_>,
+    firsts: &[Marked<'_>],
+    at: usize,
+) -> Option<usize>
+    ensures { (texts : Numbers) → HaveNumbers (key_of entity columns.now) texts firsts.now
+        → IfSome result (λ mark. number_of texts (key_text (key_of entity columns.now row.now)) ≡ Some mark) }
+{
+    if at >= firsts.len() {
+        return None;
+    }
+    let first = &firsts[at];
+    in_one_group(entity, columns, row, first.row).then_some(first.mark)
+}
+
+// The mark of the row's text. A row with a new text begins its mark.
+fn numbered<'a>(
+    alloc: Global,
+    entity: Option<Entity>,
+    columns: &[Name],
+    row: &'a View<'a>,
+    texts: &mut IndexSet<Vec<u8>, Keys>,
+    firsts: &mut Vec<Marked<'a>>,
+) -> Result<usize, AllocError>
+    requires firsts { HaveNumbers (key_of entity columns.now) texts.old firsts.old.items }
+    ensures firsts { OnOk result (HaveNumbers (key_of entity columns.now) texts.new firsts.new.items) }
+    ensures number { IfOk result (λ mark. number_of texts.new (key_text (key_of entity columns.now row.now)) ≡ Some mark) }
+    ensures kept { OnOk result ((other : List ℕ) (n : ℕ) → number_of texts.old other ≡ Some n → number_of texts.new other ≡ Some n) }
+{
+    let text = text_of(alloc, entity, columns, row)?;
+    let mark = number_of(texts, text)?;
+    if mark == firsts.len() {
+        firsts.push(Marked { row, mark })?;
+    }
+    Ok(mark)
+}
+
+// The mark of the row. Rows of one group often stand side by side, and the groups of a node's rows often follow one another as those
+// of the node before did. So the last mark and the next one are tried before a text is made.
+fn mark_of<'a>(
+    alloc: Global,
+    entity: Option<Entity>,
+    columns: &[Name],
+    row: &'a View<'a>,
+    texts: &mut IndexSet<Vec<u8>, Keys>,
+    firsts: &mut Vec<Marked<'a>>,
+    last: usize,
+) -> Result<usize, AllocError>
+    requires firsts { HaveNumbers (key_of entity columns.now) texts.old firsts.old.items }
+    ensures firsts { OnOk result (HaveNumbers (key_of entity columns.now) texts.new firsts.new.items) }
+    ensures number { IfOk result (λ mark. number_of texts.new (key_text (key_of entity columns.now row.now)) ≡ Some mark) }
+    ensures kept { OnOk result ((other : List ℕ) (n : ℕ) → number_of texts.old other ≡ Some n → number_of texts.new other ≡ Some n) }
+{
+    if let Some(mark) = guessed(entity, columns, row, firsts.as_slice(), last) {
+        return Ok(mark);
+    }
+    if let Some(mark) = guessed(
+        entity,
+        columns,
+        row,
+        firsts.as_slice(),
+        last.wrapping_add(1),
+    ) {
+        return Ok(mark);
+    }
+    numbered(alloc, entity, columns, row, texts, firsts)
+}
+
 /// The rows with their marks, for grouping by these columns.
 pub fn with_marks<'a>(
     alloc: Global,
     keys: Keys,
     entity: Option<Entity>,
     columns: &[Name],
-    rows: &'a [Cells],
+    rows: &'a [View<'a>],
 ) -> Result<Vec<Marked<'a>>, AllocError>
     ensures rows { IfOk result (λ all. rows_marked all.items ≡ rows.now) }
     ensures marks { IfOk result (λ all. AreMarked (key_of entity columns.now) all.items) }
 {
     let mut texts = IndexSet::with_hasher(alloc, keys);
-    let mut all = Vec::new(alloc);
-    for cells in rows {
-        let row = cells.as_slice();
-        let text = text_of(alloc, entity, columns, row)?;
-        let mark = number_of(&mut texts, text)?;
+    let mut firsts = Vec::new(alloc);
+    let mut all = Vec::with_capacity(alloc, rows.len())?;
+    let mut last = 0;
+    for row in rows {
+        let mark = mark_of(alloc, entity, columns, row, &mut texts, &mut firsts, last)?;
         all.push(Marked { row, mark })?;
+        last = mark;
     }
     Ok(all)
 }

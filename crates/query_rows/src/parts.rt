@@ -1,17 +1,16 @@
 //! Sorts rows into parts by their marks.
 ghost use Rattle.std.specs.Prelude.{◌≡◌, ◌++◌, ◌∷◌, ◌==◌, ◌<◌, [], ℕ, length, IfOk, OnOk, if◌then◌else◌};
-ghost use Rattle.fleet_tables.specs.fleet_rows.Cell.{cells_of};
 ghost use Rattle.query_rows.specs.Marked.{part_at, rows_marked, HaveMarks, AreParted};
 ghost use Rattle.query_plan.specs.table_spec.Rows as spec;
 
 use crate::marks::Marked;
-use fleet_tables::fleet_rows::Cell;
+use row_views::View;
 use std::alloc::{AllocError, Global};
 
 /// The rows with one mark, in order.
 #[derive(Drop)]
 pub struct Part<'a> {
-    pub rows: Vec<&'a [Cell]>,
+    pub rows: Vec<&'a View<'a>>,
 }
 
 // Makes room for the mark.
@@ -27,9 +26,9 @@ fn grow(alloc: Global, parts: &mut Vec<Part<'_>>, mark: usize) -> Result<(), All
     Ok(())
 }
 
-fn put_at<'a>(parts: &mut Vec<Part<'a>>, mark: usize, row: &'a [Cell]) -> Result<(), AllocError>
+fn put_at<'a>(parts: &mut Vec<Part<'a>>, mark: usize, row: &'a View<'a>) -> Result<(), AllocError>
     requires { mark < length parts.old.items }
-    ensures { OnOk result ((q : ℕ) → part_at parts.new.items q ≡ part_at parts.old.items q ++ (if mark == q then cells_of row.now ∷ [] else [])) }
+    ensures { OnOk result ((q : ℕ) → part_at parts.new.items q ≡ part_at parts.old.items q ++ (if mark == q then row.now ∷ [] else [])) }
 {
     parts[mark].rows.push(row)?;
     Ok(())
@@ -40,9 +39,9 @@ pub fn put<'a>(
     alloc: Global,
     parts: &mut Vec<Part<'a>>,
     mark: usize,
-    row: &'a [Cell],
+    row: &'a View<'a>,
 ) -> Result<(), AllocError>
-    ensures { OnOk result ((q : ℕ) → part_at parts.new.items q ≡ part_at parts.old.items q ++ (if mark == q then cells_of row.now ∷ [] else [])) }
+    ensures { OnOk result ((q : ℕ) → part_at parts.new.items q ≡ part_at parts.old.items q ++ (if mark == q then row.now ∷ [] else [])) }
 {
     grow(alloc, parts, mark)?;
     put_at(parts, mark, row)

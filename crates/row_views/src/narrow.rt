@@ -71,7 +71,7 @@ fn push_if(alloc: Global, flag: bool, cell: &Cell, cells: &mut Cells) -> Result<
 pub(crate) fn narrow_cells(alloc: Global, flags: &[bool], row: &[Cell]) -> Result<Cells, AllocError>
     ensures { IfOk result (λ cells. cells ≡ narrowed flags.now (cells_of row.now)) }
 {
-    let mut cells = Cells::new(alloc);
+    let mut cells = Cells::with_capacity(alloc, row.len())?;
     push_narrow(alloc, flags, row, &mut cells)?;
     Ok(cells)
 }

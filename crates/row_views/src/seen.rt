@@ -101,7 +101,7 @@ pub fn copied(alloc: Global, seen: &Seen<'_>) -> Result<Cell, AllocError>
 pub(crate) fn all_copied(alloc: Global, row: &[Seen<'_>]) -> Result<Cells, AllocError>
     ensures { IfOk result (λ cells. cells ≡ map seen_value row.now) }
 {
-    let mut cells = Cells::new(alloc);
+    let mut cells = Cells::with_capacity(alloc, row.len())?;
     for seen in row {
         cells.push(copied(alloc, seen)?)?;
     }
@@ -112,7 +112,7 @@ pub(crate) fn all_copied(alloc: Global, row: &[Seen<'_>]) -> Result<Cells, Alloc
 pub(crate) fn copied_cells(alloc: Global, row: &[Cell]) -> Result<Cells, AllocError>
     ensures { IfOk result (λ cells. cells ≡ cells_of row.now) }
 {
-    let mut cells = Cells::new(alloc);
+    let mut cells = Cells::with_capacity(alloc, row.len())?;
     for cell in row {
         cells.push(cell.copy(alloc)?)?;
     }

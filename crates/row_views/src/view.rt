@@ -1,5 +1,6 @@
 //! Shows rows of the tables: a column is seen without a copy.
-ghost use Rattle.std.specs.Prelude.{◌≡◌, IfOk, map};
+ghost use Rattle.std.specs.Prelude.{◌≡◌, [], Some, IfOk, map};
+ghost use Rattle.fleet_tables.specs.fleet_rows.declared.row.Entity.TheVariants as entities;
 ghost use Rattle.paging_text.specs.means_spec.Cells.{cell_in};
 ghost use Rattle.row_views.specs.Held.{fact_values, resource_values, report_values};
 ghost use Rattle.row_views.specs.Seen.{seen_value};
@@ -140,6 +141,77 @@ fn seen_in<'a>(entity: Option<Entity>, name: &str, row: &[Seen<'a>]) -> Seen<'a>
     }
 }
 
+// The same of a fact. The columns that queries name most are found without a list of all.
+fn seen_in_fact<'a>(fact: &FactRow<'a>, entity: Option<Entity>, name: &str) -> Seen<'a>
+    ensures { seen_value result ≡ cell_in entity name.now (fact_values fact.now) }
+{
+    match entity {
+        Some(Entity::Facts) => fact_column(fact, name),
+        _ => seen_in(entity, name, &fact_seen(fact)),
+    }
+}
+
+fn fact_column<'a>(fact: &FactRow<'a>, name: &str) -> Seen<'a>
+    ensures { seen_value result ≡ cell_in (Some entities.Facts) name.now (fact_values fact.now) }
+{
+    match name {
+        "name" => Seen::Text(fact.name),
+        "value" => Seen::Value(fact.value),
+        "certname" => Seen::Text(fact.certname),
+        _ => seen_in(Some(Entity::Facts), name, &fact_seen(fact)),
+    }
+}
+
+// The same of a resource.
+fn seen_in_resource<'a>(row: &ResourceRow<'a>, entity: Option<Entity>, name: &str) -> Seen<'a>
+    ensures { seen_value result ≡ cell_in entity name.now (resource_values row.now) }
+{
+    match entity {
+        Some(Entity::Resources) => resource_column(row, name),
+        _ => seen_in(entity, name, &resource_seen(row)),
+    }
+}
+
+fn resource_column<'a>(row: &ResourceRow<'a>, name: &str) -> Seen<'a>
+    ensures { seen_value result ≡ cell_in (Some entities.Resources) name.now (resource_values row.now) }
+{
+    match name {
+        "type" => Seen::Text(&row.resource.rtype),
+        "title" => Seen::Text(&row.resource.title),
+        "certname" => Seen::Text(&row.change.certname),
+        _ => seen_in(Some(Entity::Resources), name, &resource_seen(row)),
+    }
+}
+
+// The same of a report.
+fn seen_in_report<'a>(held: &'a HeldReport, entity: Option<Entity>, name: &str) -> Seen<'a>
+    ensures { seen_value result ≡ cell_in entity name.now (report_values held.now) }
+{
+    match entity {
+        Some(entity) => seen_of_report(held, entity, name),
+        None => seen_in(None, name, &report_seen(held)),
+    }
+}
+
+fn seen_of_report<'a>(held: &'a HeldReport, entity: Entity, name: &str) -> Seen<'a>
+    ensures { seen_value result ≡ cell_in (Some entity) name.now (report_values held.now) }
+{
+    match entity {
+        Entity::Reports => report_column(held, name),
+        _ => seen_in(Some(entity), name, &report_seen(held)),
+    }
+}
+
+fn report_column<'a>(held: &'a HeldReport, name: &str) -> Seen<'a>
+    ensures { seen_value result ≡ cell_in (Some entities.Reports) name.now (report_values held.now) }
+{
+    match name {
+        "certname" => Seen::Text(held.report().change.certname()),
+        "status" => text_or_null(held.report().change.status()),
+        _ => seen_in(Some(Entity::Reports), name, &report_seen(held)),
+    }
+}
+
 /// The cells of a fact, copied.
 pub(crate) fn cells_of_fact(alloc: Global, fact: &FactRow<'_>) -> Result<Cells, AllocError>
     ensures { IfOk result (λ cells. cells ≡ fact_values fact.now) }
@@ -148,14 +220,23 @@ pub(crate) fn cells_of_fact(alloc: Global, fact: &FactRow<'_>) -> Result<Cells, 
 }
 
 impl<'t> View<'t> {
+    /// A row without cells.
+    pub fn none() -> View<'t>
+        ensures { result ≡ [] }
+    {
+        View {
+            held: Held::Lent(&[]),
+        }
+    }
+
     /// The value in the column with this name, or null if the entity has no such column.
     pub fn seen(&self, entity: Option<Entity>, name: &str) -> Seen<'_>
         ensures { seen_value result ≡ cell_in entity name.now self.now }
     {
         match &self.held {
-            Held::Fact(fact) => seen_in(entity, name, &fact_seen(fact)),
-            Held::Resource(row) => seen_in(entity, name, &resource_seen(row)),
-            Held::Report(report) => seen_in(entity, name, &report_seen(report)),
+            Held::Fact(fact) => seen_in_fact(fact, entity, name),
+            Held::Resource(row) => seen_in_resource(row, entity, name),
+            Held::Report(report) => seen_in_report(report, entity, name),
             Held::Lent(cells) => seen_of(cell_in(entity, name, cells)),
             Held::Made(cells) => seen_of(cell_in(entity, name, cells.as_slice())),
         }

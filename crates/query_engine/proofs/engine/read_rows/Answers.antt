@@ -7,7 +7,7 @@ use Rattle.query_reach.specs.Seen.{texts_seen}
 use Rattle.query_rows.specs.Tables.{world_of}
 use Rattle.query_reading.specs.Joins.{Joins, step_join}
 use Rattle.query_reading.proofs.RowReads.{pins_imply, stage_cost}
-use Rattle.query_engine.specs.Answers.{IsStageAnswered}
+use Rattle.level_answers.specs.Levels.{IsStageAnswered}
 use Rattle.query_engine.proofs.Stages.{stage_answered, stage_whole}
 use Rattle.query_engine.proofs.engine.read_rows.Goals as goal
 

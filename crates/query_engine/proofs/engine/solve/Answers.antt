@@ -4,7 +4,7 @@ use Rattle.query_plan.specs.table_spec.Rows.{Cells}
 use Rattle.query_plan.specs.means_spec.World.{World}
 use Rattle.query_plan.specs.Plan as plan
 use Rattle.query_plan.specs.Made.{stage_of, stages_of}
-use Rattle.query_engine.specs.Answers.{IsStageAnswered}
+use Rattle.level_answers.specs.Levels.{IsStageAnswered}
 use Rattle.query_rows.specs.Tables.{world_of}
 use Rattle.query_engine.proofs.Stages.{sum_told, rows_on, sums_on, cost_on, cost_now, cost_whole}
 use Rattle.query_rows.proofs.TryLaws.{tried_then}

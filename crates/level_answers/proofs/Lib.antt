@@ -1,0 +1,5 @@
+mod SumLaws
+mod Fitting
+mod SortedRefs
+mod BegunLaws
+mod CountLaws

@@ -1,9 +1,0 @@
-use Rattle.std.proofs.Common.{◌≡◌, drop, map}
-use Rattle.query_plan.specs.means_spec.Cells.{cell_in}
-use Rattle.query_plan.specs.means_spec.Groups.{told, greatest_of}
-use Rattle.query_engine.specs.Best.{cells_told, greatest_behind}
-use Rattle.query_rows.specs.Referred.{rows_of}
-use Rattle.query_engine.proofs.functions.greatest_of.Given as goal
-
-abbrev pub invariant-loop-row : goal.invariant-loop-row
-invariant-loop-row l = greatest_behind (cells_told l.best) (told (map (cell_in l.entity l.name) (rows_of (drop l.row-index l.rows)))) ≡ greatest_of (told (map (cell_in l.entity l.name) (rows_of l.rows)))

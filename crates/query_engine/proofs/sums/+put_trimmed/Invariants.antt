@@ -1,4 +1,0 @@
-use Rattle.query_engine.proofs.sums.+put_trimmed.Given as goal
-
-abbrev pub decreases-put_trimmed : goal.decreases-put_trimmed
-decreases-put_trimmed l = l.width
