@@ -79,7 +79,7 @@ fn made<'t>(cells: Cells) -> KeptRow<'t>
     }
 }
 
-fn made_of<'t>(
+pub(crate) fn made_of<'t>(
     alloc: Global,
     node: &Node,
     entity: Entity,
@@ -95,7 +95,7 @@ fn made_of<'t>(
     Ok(made(row.cells))
 }
 
-fn made_at<'t, L: Ledger>(
+pub(crate) fn made_at<'t, L: Ledger>(
     tables: &Tables,
     entity: Entity,
     i: usize,
@@ -129,7 +129,11 @@ fn fact_in<'t>(change: &'t FactsChange, order: &PackedOrder, j: usize) -> KeptRo
 }
 
 // Row j of the node's facts. It is made if their order isn't known.
-fn fact_of<'t>(alloc: Global, node: &'t Node, j: usize) -> Result<KeptRow<'t>, AllocError>
+pub(crate) fn fact_of<'t>(
+    alloc: Global,
+    node: &'t Node,
+    j: usize,
+) -> Result<KeptRow<'t>, AllocError>
     requires kept { IsNode node.now }
     requires within { j < count_of entities.Facts (counts node.now) }
     ensures { IfOk result (λ row. (ttls : Ttls) (expiry : Option ℤ)
@@ -164,7 +168,11 @@ fn resource_in<'t>(change: &'t CatalogChange, shown: &'t ResourcesShown, j: usiz
 }
 
 // Row j of the node's resources. It is made if their order isn't known.
-fn resource_of<'t>(alloc: Global, node: &'t Node, j: usize) -> Result<KeptRow<'t>, AllocError>
+pub(crate) fn resource_of<'t>(
+    alloc: Global,
+    node: &'t Node,
+    j: usize,
+) -> Result<KeptRow<'t>, AllocError>
     requires kept { IsNode node.now }
     requires within { j < count_of entities.Resources (counts node.now) }
     ensures { IfOk result (λ row. (ttls : Ttls) (expiry : Option ℤ)
@@ -201,7 +209,7 @@ fn cells_of_report(alloc: Global, report: &HeldReport) -> Result<Cells, AllocErr
 }
 
 // Report j of the node.
-fn report_of<'t>(node: &'t Node, j: usize) -> KeptRow<'t>
+pub(crate) fn report_of<'t>(node: &'t Node, j: usize) -> KeptRow<'t>
     requires kept { IsNode node.now }
     requires within { j < count_of entities.Reports (counts node.now) }
     ensures { (ttls : Ttls) (expiry : Option ℤ)

@@ -1,4 +1,4 @@
-use Rattle.std.proofs.Common.{◌≡◌, ◌<◌, length, Ok, refl, arith}
+use Rattle.std.proofs.Common.{◌<◌, length, Ok, refl, arith}
 use Rattle.std.proofs.lemmas.Option.{slice_get_read}
 use Rattle.fleet_tables.proofs.of_history_laws.Members.{All-Among}
 use Rattle.fleet_tables.specs.fleet_rows.declared.row.Entity.TheVariants.{Reports}
