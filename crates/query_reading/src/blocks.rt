@@ -22,7 +22,7 @@ use paging_text::Lines;
 use pattern_port::Patterns;
 use query_plan::Stage;
 use query_rows::{Column, Known, Ready, Scene, columns_of, fact_rows, holds_given};
-use row_views::{KeptRow, KeptRows, View, kept_row, views_of};
+use row_views::{Cursor, KeptRow, KeptRows, View, views_of};
 use std::alloc::{AllocError, Global};
 use std::sync::ledger::Ledger;
 
@@ -43,8 +43,9 @@ fn rows_at<'t, L: Ledger>(
     ensures value { IfOk result (λ rows. rows.items ≡ picked (table_rows entity tables.now) places.now) }
 {
     let mut rows = Vec::with_capacity(alloc, places.len())?;
+    let mut cursor = Cursor::new(alloc, tables, entity, narrow);
     'reading: for place in places {
-        rows.push(kept_row(alloc, tables, entity, *place, narrow, walk)?)?;
+        rows.push(cursor.row(*place, walk)?)?;
     }
     Ok(rows)
 }
