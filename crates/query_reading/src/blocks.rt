@@ -20,7 +20,7 @@ use fleet_tables::fleet_rows::Entity;
 use fleet_tables::{Steps, Tables};
 use paging_text::Lines;
 use pattern_port::Patterns;
-use query_plan::Stage;
+use query_plan::{Stage, Step};
 use query_rows::{Column, Known, Ready, Scene, columns_of, fact_rows, holds_given};
 use row_views::{Cursor, KeptRow, KeptRows, View, views_of};
 use std::alloc::{AllocError, Global};
@@ -209,9 +209,9 @@ fn choose_block<'t, P: Patterns>(
     Ok(())
 }
 
-// The columns of the block.
+// The columns of the block, from what is seen of its rows.
 #[tactic(auto, using(query_rows::proofs::TryLaws::tried_nothing))]
-fn seen_columns<P: Patterns>(
+fn tried_columns<P: Patterns>(
     scene: &Scene,
     patterns: &mut P,
     compiled: &[P::Compiled],
@@ -231,6 +231,51 @@ fn seen_columns<P: Patterns>(
     let views = views_of(scene.alloc, rows, entity, narrow)?;
     let seen = views.as_slice();
     columns_of(scene, stage.entity, seen, patterns, compiled, steps)
+}
+
+fn tries_pattern(step: &Step) -> bool {
+    match step {
+        Step::Fits(_, _) => true,
+        _ => false,
+    }
+}
+
+// Whether a step tries a pattern.
+fn try_patterns(steps: &[Ready]) -> bool {
+    for ready in steps {
+        if tries_pattern(ready.step) {
+            return true;
+        }
+    }
+    false
+}
+
+// The columns of the block. Where no step tries a pattern there are none, and nothing is looked at.
+#[tactic(auto, using(query_rows::proofs::TryLaws::tried_nothing, query_rows::proofs::BlockLaws::none_left))]
+fn seen_columns<P: Patterns>(
+    scene: &Scene,
+    patterns: &mut P,
+    compiled: &[P::Compiled],
+    stage: &Stage,
+    steps: &[Ready],
+    entity: Entity,
+    narrow: bool,
+    rows: &[KeptRow<'_>],
+) -> Result<Vec<Column>, AllocError>
+    ensures same { (p t : List ℕ) → P.says patterns.new p t ≡ P.says patterns.old p t }
+    ensures calm { P.refusals patterns.new ≡ P.refusals patterns.old }
+    ensures silent { P.asked patterns.new ≡ P.asked patterns.old }
+    ensures tried { HasTried (P.course patterns.old) (P.course patterns.new) }
+    ensures value { IfOk result (λ columns. AreColumns scene.now (P.says patterns.old) (map (λ c. P.made_from c) compiled.now) stage.now.entity
+        (map (shown_as narrow entity) rows.now) steps.now columns.items) }
+{
+    if try_patterns(steps) {
+        tried_columns(
+            scene, patterns, compiled, stage, steps, entity, narrow, rows,
+        )
+    } else {
+        Ok(Vec::new(scene.alloc))
+    }
 }
 
 // Appends the rows of a block that the stage chooses, by the columns of the block.

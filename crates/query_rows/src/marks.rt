@@ -175,7 +175,7 @@ fn numbered<'a>(
 }
 
 // The mark of the row. Rows of one group often stand side by side, and the groups of a node's rows often follow one another as those
-// of the node before did. So the last mark and the next one are tried before a text is made.
+// of the node before did. So the last mark and the next one are tried before a text is made, first the one that held of the row before.
 fn mark_of<'a>(
     alloc: Global,
     entity: Option<Entity>,
@@ -184,22 +184,20 @@ fn mark_of<'a>(
     texts: &mut IndexSet<Vec<u8>, Keys>,
     firsts: &mut Vec<Marked<'a>>,
     last: usize,
+    stays: bool,
 ) -> Result<usize, AllocError>
     requires firsts { HaveNumbers (key_of entity columns.now) texts.old firsts.old.items }
     ensures firsts { OnOk result (HaveNumbers (key_of entity columns.now) texts.new firsts.new.items) }
     ensures number { IfOk result (λ mark. number_of texts.new (key_text (key_of entity columns.now row.now)) ≡ Some mark) }
     ensures kept { OnOk result ((other : List ℕ) (n : ℕ) → number_of texts.old other ≡ Some n → number_of texts.new other ≡ Some n) }
 {
-    if let Some(mark) = guessed(entity, columns, row, firsts.as_slice(), last) {
+    let next = last.wrapping_add(1);
+    let likely = if stays { last } else { next };
+    let other = if stays { next } else { last };
+    if let Some(mark) = guessed(entity, columns, row, firsts.as_slice(), likely) {
         return Ok(mark);
     }
-    if let Some(mark) = guessed(
-        entity,
-        columns,
-        row,
-        firsts.as_slice(),
-        last.wrapping_add(1),
-    ) {
+    if let Some(mark) = guessed(entity, columns, row, firsts.as_slice(), other) {
         return Ok(mark);
     }
     numbered(alloc, entity, columns, row, texts, firsts)
@@ -220,9 +218,20 @@ pub fn with_marks<'a>(
     let mut firsts = Vec::new(alloc);
     let mut all = Vec::with_capacity(alloc, rows.len())?;
     let mut last = 0;
+    let mut stays = true;
     for row in rows {
-        let mark = mark_of(alloc, entity, columns, row, &mut texts, &mut firsts, last)?;
+        let mark = mark_of(
+            alloc,
+            entity,
+            columns,
+            row,
+            &mut texts,
+            &mut firsts,
+            last,
+            stays,
+        )?;
         all.push(Marked { row, mark })?;
+        stays = mark == last;
         last = mark;
     }
     Ok(all)

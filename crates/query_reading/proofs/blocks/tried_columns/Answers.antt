@@ -3,7 +3,7 @@ use Rattle.std.proofs.lemmas.Result.{IfOk-weaker}
 use Rattle.query_plan.specs.table_spec.Rows.{Cells}
 use Rattle.query_rows.specs.Columns.{AreColumns}
 use Rattle.query_rows.specs.declared.blocks.Column.{Column}
-use Rattle.query_reading.proofs.blocks.seen_columns.Goals as goal
+use Rattle.query_reading.proofs.blocks.tried_columns.Goals as goal
 
 pub returns-clause-value : goal.returns-clause-value
 returns-clause-value g c =
