@@ -1,4 +1,5 @@
 pub mod DumpTexts
+pub mod DumpExamples
 -- What those above use of the crates below.
 pub use Rattle.list_again.proofs.of_plain_laws as of_plain_laws
 pub use Rattle.list_again.proofs.of_table_machine.of_text_spec as of_text_spec

@@ -1,4 +1,4 @@
--- The shortest stamp of a moment: in UTC, without the zeros at the end of its fraction.
+-- The stamp that a dump writes of a moment: in UTC where the UTC year has a stamp, and without zeros at the end of its fraction.
 use Rattle.std.specs.Prelude.{ℕ, ℤ, pos, ◌+ℤ◌, ◌*ℤ◌, List, [], ◌∷◌, ◌==◌, nat_lt, if◌then◌else◌, Option, Some, None}
 use Rattle.list_again.specs.text_spec.Stamp.{Zone, utc, ahead, behind, StampText, stamp_text, zone_seconds, digits_text}
 use Rattle.list_again.specs.fleet_rows.Printed.{clock_at}

@@ -2,9 +2,10 @@
 //!
 //! A dump holds of each node what its table keeps: the newest facts, catalog, expiration and deactivation, and its reports. The
 //! greatest sweeps of expiry and of reports stand behind them. `specs/Dumps.antt` defines the items and the bytes,
-//! `specs/Payloads.antt` the payload of a change, `specs/Stamps.antt` the shortest stamp of a moment.
+//! `specs/Payloads.antt` the payload of a change, `specs/Stamps.antt` the stamp of a moment.
 //!
-//! Each public function has laws of `specs/Laws.antt` as its contract and an empty body.
+//! Each public function has laws of `specs/Laws.antt` as its contract and an empty body. `proofs/DumpExamples.antt` shows the fields
+//! of some changes and the items of a table.
 #![tactic(auto)]
 
 ghost use Rattle.dump_spec.specs.Laws.{EmptyTablesHaveEmptyDumps, DumpsDoNotTellReceipts};
