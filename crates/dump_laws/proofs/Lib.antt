@@ -1,5 +1,6 @@
 pub mod Zeros
 pub mod ShortStamps
+pub mod PlainStamps
 pub mod FoundFields
 pub mod TakenValues
 pub mod PlainKinds

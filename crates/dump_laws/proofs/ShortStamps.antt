@@ -7,11 +7,11 @@ use Rattle.jiff_core.proofs.SignedLemmas.{signed_arith}
 use Rattle.jiff_core.proofs.CalendarLemmas.{days_from_civil-day_count, day_count-lt_year}
 use Rattle.dump_spec.specs.fleet_rows.Printed.{clock_at}
 use Rattle.dump_spec.specs.history_laws.PrintedLaws.{IsInFourDigitYear}
-use Rattle.dump_spec.specs.stamp_time.Range.{IsStampMoment}
+use Rattle.dump_spec.specs.stamp_time.Range.{IsStampDay, IsStampMoment}
 use Rattle.dump_spec.specs.text_spec.Stamp.{Zone, utc, ahead, behind, IsZone, IsDay, StampText, IsStampText, Clock, IsClock, zone_seconds, moment, stamp_moment}
 use Rattle.dump_spec.specs.Stamps.{short_fraction, short_stamp, short_text}
 use Rattle.dump_spec.proofs.of_history_laws.PrintedClocks.{Shows, clock_at_shows}
-use Rattle.dump_spec.proofs.of_stamp_time.DayLemmas.{day_count-year_1, year_to}
+use Rattle.dump_spec.proofs.of_stamp_time.DayLemmas.{day_count-year_1, stamp_day, year_to}
 use Rattle.dump_spec.proofs.of_stamp_time.RangeLaws.{stamp_in_range}
 use Rattle.dump_laws.specs.StampLaws.{ShortTextsAreStamps}
 use Rattle.dump_laws.proofs.Zeros.{short_fraction_is}
@@ -165,3 +165,57 @@ unfolding short_text
 short_texts_are_stamps m stamp =
     let good = in_its_zone clock_at clock_at_shows m (stamp_in_range stamp.0 m stamp.1) (nat_lt (clock_at m).year 1) (nat_lt 9900 (clock_at m).year) refl refl in
     record { stamp = short_stamp m; is_stamp = good.0; text_is = refl; moment_is = good.1 }
+
+-- ---- the year that a clock shows, by the moment
+
+in_four_digits : (m : ℤ) → IsStampMoment m → IsInFourDigitYear m
+in_four_digits m h = (omega (arith, signed_arith, h), omega (arith, signed_arith, h))
+
+stamp_days : (c : Clock) → IsClock c → 1 ≤ c.year → c.year ≤ 9900 → IsStampDay (days_from_civil (pos c.year) c.month c.day)
+stamp_days c is from to =
+    let civil : IsCivilDate (pos c.year) c.month c.day = (omega (arith, signed_arith, to), (is.day.month_from, is.day.month_to), (is.day.day_from, is.day.day_to)) in
+    stamp_day (pos c.year) c.month c.day civil (omega (arith, signed_arith, from)) (omega (arith, signed_arith, to))
+
+not_before_them : (day : ℤ) (second nanos : ℕ) → second < 86_400 → nanos < 10 ^ 9 → IsStampDay day → neg_ℤ (pos 62_135_596_800_000_000_000) ≤ℤ moment day second nanos (pos 0)
+not_before_them day second nanos hs hn h = omega (arith, signed_arith, h)
+
+not_after_them : (day : ℤ) (second nanos : ℕ) → second < 86_400 → nanos < 10 ^ 9 → IsStampDay day → moment day second nanos (pos 0) <ℤ pos 250_278_163_200_000_000_000
+not_after_them day second nanos hs hn h = omega (arith, signed_arith, h)
+
+-- a clock in a year of stamps shows a moment of these years
+in_these_years : (m : ℤ) (c : Clock) → Shows c m → 1 ≤ c.year → c.year ≤ 9900 → (neg_ℤ (pos 62_135_596_800_000_000_000) ≤ℤ m) × (m <ℤ pos 250_278_163_200_000_000_000)
+in_these_years m c h from to =
+    let is = h.is_clock in
+    let day = days_from_civil (pos c.year) c.month c.day in
+    let second = c.hour * 3600 + c.minute * 60 + c.second in
+    let days = stamp_days c is from to in (
+      subst (λ z. neg_ℤ (pos 62_135_596_800_000_000_000) ≤ℤ z) (sym h.moment_is) (not_before_them day second c.nanos (second_of c is) is.nanos days),
+      subst (λ z. z <ℤ pos 250_278_163_200_000_000_000) (sym h.moment_is) (not_after_them day second c.nanos (second_of c is) is.nanos days),
+    )
+
+below_1 : (n : ℕ) (b : Bool) → nat_lt n 1 ≡ b → (1 ≤ n → ⊥) → n < 1
+below_1 n true e never = grind arith
+below_1 n false e never = absurd (never (grind arith))
+
+above_9900 : (n : ℕ) (b : Bool) → nat_lt 9900 n ≡ b → (n ≤ 9900 → ⊥) → 9900 < n
+above_9900 n true e never = grind arith
+above_9900 n false e never = absurd (never (grind arith))
+
+pub year_is_0 : (m : ℤ) → IsStampMoment m → m <ℤ neg_ℤ (pos 62_135_596_800_000_000_000) → (clock_at m).year < 1
+year_is_0 m h early =
+    let c = clock_at m in
+    let shows = clock_at_shows m (in_four_digits m h) in
+    let to = year_before m c shows (omega (arith, signed_arith, early)) in
+    below_1 c.year (nat_lt c.year 1) refl (λ from. let starts = (in_these_years m c shows from to).0 in omega (arith, signed_arith, early, starts))
+
+pub year_is_after : (m : ℤ) → IsStampMoment m → pos 250_278_163_200_000_000_000 ≤ℤ m → 9900 < (clock_at m).year
+year_is_after m h late =
+    let c = clock_at m in
+    let shows = clock_at_shows m (in_four_digits m h) in
+    let from = year_from m c shows (omega (arith, signed_arith, late)) in
+    above_9900 c.year (nat_lt 9900 c.year) refl (λ to. let ends = (in_these_years m c shows from to).1 in omega (arith, signed_arith, late, ends))
+
+pub year_is_stamps : (m : ℤ) → IsStampMoment m → neg_ℤ (pos 62_135_596_800_000_000_000) ≤ℤ m → m <ℤ pos 250_278_163_200_000_000_000 → (1 ≤ (clock_at m).year) × ((clock_at m).year ≤ 9900)
+year_is_stamps m h from to =
+    let shows = clock_at_shows m (in_four_digits m h) in
+    (year_from m (clock_at m) shows from, year_before m (clock_at m) shows to)

@@ -83,7 +83,7 @@ name_and_stamp (Expiration c) h = (h.certname, h.stamp)
 none_listed : IsList []
 none_listed = record { elements = tt; counted = (let few : 0 < 2 ^ 32 = omega arith in few) }
 
-empty_is_lawful : (certname : List ℕ) (m : ℤ) → IsCertname certname → HasStamp m → IsChange (empty_report certname m)
+pub empty_is_lawful : (certname : List ℕ) (m : ℤ) → IsCertname certname → HasStamp m → IsChange (empty_report certname m)
 empty_is_lawful certname m name stamp = record {
   certname = name;
   environment = tt;

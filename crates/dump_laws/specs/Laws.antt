@@ -39,3 +39,9 @@ DumpsLeadBack =
     (entity : Entity) (ttls : Ttls) (history again : Trace) (received : ℤ) → IsTrace history → HasStamp received
     → OneThread (dump_items received (table_of ttls history)) again
     → map (untold entity) (rows entity ttls again) ≡ map (untold entity) (rows entity ttls history)
+
+-- the table of that history has the greatest sweeps of the dumped table, also those that change no row
+abbrev pub SweepsComeBack : Type 0
+SweepsComeBack =
+    (ttls : Ttls) (history again : Trace) (received : ℤ) → IsTrace history → OneThread (dump_items received (table_of ttls history)) again
+    → ((table_of ttls again).expiry ≡ (table_of ttls history).expiry) × ((table_of ttls again).retention ≡ (table_of ttls history).retention)

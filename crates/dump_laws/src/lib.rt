@@ -4,19 +4,23 @@
 //!   decodes to the change.
 //! - [`a_dump_is_a_spool`]: the bytes are a spool of the items.
 //! - [`a_dump_leads_back`]: one thread with the same settings makes of it a history with the rows of the dumped table, but for the
-//!   moments at which reports were received. [`a_dump_comes_back`]: a dump of that history's table is the same dump.
+//!   moments at which reports were received. [`the_sweeps_come_back`]: its table has the same greatest sweeps.
+//!   [`a_dump_comes_back`]: a dump of that table is the same dump.
 //!
 //! Each public function has laws of `specs/` as its contract and an empty body.
 #![tactic(auto)]
 
-ghost use Rattle.dump_laws.specs.Laws.{CommandsDecodeToTheirChange, DumpsAreSpools, DumpsLeadBack};
+ghost use Rattle.dump_laws.specs.Laws.{CommandsDecodeToTheirChange, DumpsAreSpools, DumpsLeadBack, SweepsComeBack};
 ghost use Rattle.dump_laws.specs.PayloadLaws.{PayloadsHaveTheirChange};
 ghost use Rattle.dump_laws.specs.RowLaws.{DumpsAreTraces, TheRowsComeBack, DumpsComeBack};
-ghost use Rattle.dump_laws.specs.StampLaws.{ShortTextsAreStamps};
+ghost use Rattle.dump_laws.specs.StampLaws.{ShortTextsAreStamps, ShortTextsAreInUtc, NoFractionEndsWithZero};
 
-/// The shortest text of a moment is a stamp of it, wherever the moment has one.
+/// The text of a moment is a stamp of it, wherever the moment has one. It ends with Z where it can, and never with a zero before
+/// that.
 pub fn a_short_text_is_a_stamp()
-    ensures { ShortTextsAreStamps }
+    ensures stamp { ShortTextsAreStamps }
+    ensures utc { ShortTextsAreInUtc }
+    ensures fraction { NoFractionEndsWithZero }
 {}
 
 /// The value of a payload stands for the change that it was made of.
@@ -52,4 +56,10 @@ pub fn a_dump_is_a_spool()
 /// One thread makes of a dump a history with the rows of the dumped table, but for the moments at which reports were received.
 pub fn a_dump_leads_back()
     ensures { DumpsLeadBack }
+{}
+
+/// The table to which a dump leads has the greatest sweeps of the dumped table.
+#[tactic(auto, using(crate::proofs::LeadsBack::sweeps_come_back))]
+pub fn the_sweeps_come_back()
+    ensures { SweepsComeBack }
 {}
