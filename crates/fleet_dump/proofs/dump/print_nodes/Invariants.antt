@@ -1,0 +1,12 @@
+use Rattle.std.proofs.Common.{◌≡◌, take}
+use Rattle.std.specs.List.{flat_map}
+use Rattle.kept_nodes.specs.Seen.{node_seen}
+use Rattle.fleet_dump.specs.Printed.{node_items, Prints}
+use Rattle.fleet_dump.proofs.dump.print_nodes.Given as goal
+
+-- the items so far were written or are left in the text
+abbrev pub invariant-nodes : goal.invariant-nodes
+invariant-nodes g l = record {
+  so_far : Prints (flat_map (λ b. node_items (node_seen b.value)) (take l.node-index l.nodes)) l.fn.printer.text.items l.printer.text.items (g.O.Sink.held l.fn.out) (g.O.Sink.held l.out) l.fn.printer.room l.printer.room;
+  calm : g.O.Sink.fault_count l.out ≡ g.O.Sink.fault_count l.fn.out;
+}
