@@ -41,17 +41,13 @@ each_boxed (b ∷ boxes) all = (all.0, each_boxed boxes all.1)
 -- ---- what holds of all
 
 -- the front of a list, and the rest
-pub all_front : {X : Type 0} (P : X → Type 0) (xs ys : List X) → AllByRecursion P (xs ++ ys) → AllByRecursion P xs
-all_front P [] ys all = tt
-all_front P (x ∷ xs) ys all = (all.0, all_front P xs ys all.1)
-
-pub all_rest : {X : Type 0} (P : X → Type 0) (xs ys : List X) → AllByRecursion P (xs ++ ys) → AllByRecursion P ys
-all_rest P [] ys all = all
-all_rest P (x ∷ xs) ys all = all_rest P xs ys all.1
+pub all_parts : {X : Type 0} (P : X → Type 0) (xs ys : List X) → AllByRecursion P (xs ++ ys) → AllByRecursion P xs × AllByRecursion P ys
+all_parts P [] ys all = (tt, all)
+all_parts P (x ∷ xs) ys all = let both = all_parts P xs ys all.1 in ((all.0, both.0), both.1)
 
 pub each_joined : {X : Type 0} (P : Node → Type 0) (f : X → List Node) (xs : List X) → AllByRecursion P (joined (map f xs)) → AllByRecursion (λ x. AllByRecursion P (f x)) xs
 each_joined P f [] all = tt
-each_joined P f (x ∷ xs) all = (all_front P (f x) (joined (map f xs)) all, each_joined P f xs (all_rest P (f x) (joined (map f xs)) all))
+each_joined P f (x ∷ xs) all = let both = all_parts P (f x) (joined (map f xs)) all in (both.0, each_joined P f xs both.1)
 
 -- ---- a node's changes in two parts
 

@@ -88,8 +88,8 @@ fn print_facts<O: Sink + Drop>(
     out: &mut O,
 ) -> Dumped
     requires { AllByRecursion IsChange (if_there (change_of (option_map facts_seen facts.now))) }
-    ensures which { Printed result (map change_item (if_there (change_of (option_map facts_seen facts.now)))) printer.old.text.items printer.new.text.items
-        (O.held out.old) (O.held out.new) printer.old.room printer.new.room }
+    ensures which { Printed result (map change_item (if_there (change_of (option_map facts_seen facts.now))))
+        printer.old.text.items printer.new.text.items (O.held out.old) (O.held out.new) printer.old.room printer.new.room }
     ensures cause { Counts (O.fault_count out.old) (O.fault_count out.new) (result ≡ Dumped.WriteFault) }
 {
     match facts {
@@ -104,8 +104,8 @@ fn print_catalog<O: Sink + Drop>(
     out: &mut O,
 ) -> Dumped
     requires { AllByRecursion IsChange (if_there (change_of (option_map catalog_seen catalog.now))) }
-    ensures which { Printed result (map change_item (if_there (change_of (option_map catalog_seen catalog.now)))) printer.old.text.items printer.new.text.items
-        (O.held out.old) (O.held out.new) printer.old.room printer.new.room }
+    ensures which { Printed result (map change_item (if_there (change_of (option_map catalog_seen catalog.now))))
+        printer.old.text.items printer.new.text.items (O.held out.old) (O.held out.new) printer.old.room printer.new.room }
     ensures cause { Counts (O.fault_count out.old) (O.fault_count out.new) (result ≡ Dumped.WriteFault) }
 {
     match catalog {
@@ -120,8 +120,8 @@ fn print_expiration<O: Sink + Drop>(
     out: &mut O,
 ) -> Dumped
     requires { AllByRecursion IsChange (if_there (change_of (option_map expiration_seen expiration.now))) }
-    ensures which { Printed result (map change_item (if_there (change_of (option_map expiration_seen expiration.now)))) printer.old.text.items printer.new.text.items
-        (O.held out.old) (O.held out.new) printer.old.room printer.new.room }
+    ensures which { Printed result (map change_item (if_there (change_of (option_map expiration_seen expiration.now))))
+        printer.old.text.items printer.new.text.items (O.held out.old) (O.held out.new) printer.old.room printer.new.room }
     ensures cause { Counts (O.fault_count out.old) (O.fault_count out.new) (result ≡ Dumped.WriteFault) }
 {
     match expiration {
@@ -136,8 +136,8 @@ fn print_deactivation<O: Sink + Drop>(
     out: &mut O,
 ) -> Dumped
     requires { AllByRecursion IsChange (if_there (change_of (option_map deactivation_seen deactivation.now))) }
-    ensures which { Printed result (map change_item (if_there (change_of (option_map deactivation_seen deactivation.now)))) printer.old.text.items printer.new.text.items
-        (O.held out.old) (O.held out.new) printer.old.room printer.new.room }
+    ensures which { Printed result (map change_item (if_there (change_of (option_map deactivation_seen deactivation.now))))
+        printer.old.text.items printer.new.text.items (O.held out.old) (O.held out.new) printer.old.room printer.new.room }
     ensures cause { Counts (O.fault_count out.old) (O.fault_count out.new) (result ≡ Dumped.WriteFault) }
 {
     match deactivation {
@@ -148,8 +148,8 @@ fn print_deactivation<O: Sink + Drop>(
 
 fn print_lacking<O: Sink + Drop>(printer: &mut Printer, node: &Node, out: &mut O) -> Dumped
     requires { AllByRecursion IsChange (if_there (lacking node.now.certname node.now.active (greatest_there (node_seen node.now)))) }
-    ensures which { Printed result (map change_item (if_there (lacking node.now.certname node.now.active (greatest_there (node_seen node.now))))) printer.old.text.items printer.new.text.items
-        (O.held out.old) (O.held out.new) printer.old.room printer.new.room }
+    ensures which { Printed result (map change_item (if_there (lacking node.now.certname node.now.active (greatest_there (node_seen node.now)))))
+        printer.old.text.items printer.new.text.items (O.held out.old) (O.held out.new) printer.old.room printer.new.room }
     ensures cause { Counts (O.fault_count out.old) (O.fault_count out.new) (result ≡ Dumped.WriteFault) }
 {
     match node.active {

@@ -10,20 +10,20 @@ use Rattle.kept_nodes.specs.declared.kept.Report.{Report}
 use Rattle.kept_nodes.specs.Seen.{node_seen, report_seen}
 use Rattle.fleet_dump.specs.Dumpable.{newest_changes}
 use Rattle.fleet_dump.specs.Printed.{change_item, items_text, Printed, PrintsLess, PrintsFront}
-use Rattle.fleet_dump.proofs.Listed.{all_front, all_rest, in_two, items_in_two}
+use Rattle.fleet_dump.proofs.Listed.{all_parts, in_two, items_in_two}
 use Rattle.fleet_dump.proofs.Progress.{printed_then, less_of_first, front_of_first}
 use Rattle.fleet_dump.proofs.dump.print_node.Goals as goal
 
 pub print_newest-requires : goal.print_newest-requires
 print_newest-requires g c =
     let n = node_seen c.args.node.now in
-    all_front IsChange (newest_changes n) (map change_in (sorted_by by_rank n.reports)) (subst (λ (cs : List Change). AllByRecursion IsChange cs) (in_two n) c.requires)
+    (all_parts IsChange (newest_changes n) (map change_in (sorted_by by_rank n.reports)) (subst (λ (cs : List Change). AllByRecursion IsChange cs) (in_two n) c.requires)).0
 
 pub print_ranked-requires : goal.print_ranked-requires
 print_ranked-requires g c =
     let n = node_seen c.args.node.now in
     subst (λ (rs : List Report). AllByRecursion IsChange (map change_in (sorted_by by_rank (map report_seen rs)))) (sym c.as_slice.ensures.value)
-    (all_rest IsChange (newest_changes n) (map change_in (sorted_by by_rank n.reports)) (subst (λ (cs : List Change). AllByRecursion IsChange cs) (in_two n) c.requires))
+    (all_parts IsChange (newest_changes n) (map change_in (sorted_by by_rank n.reports)) (subst (λ (cs : List Change). AllByRecursion IsChange cs) (in_two n) c.requires)).1
 
 pub returns-in-Ok-clause-which : goal.returns-in-Ok-clause-which
 returns-in-Ok-clause-which g c =

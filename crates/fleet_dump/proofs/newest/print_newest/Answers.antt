@@ -7,15 +7,15 @@ use Rattle.dump_writer.specs.dump_spec.table_spec.Rows.{change_of}
 use Rattle.kept_nodes.specs.Seen.{node_seen}
 use Rattle.fleet_dump.specs.Dumpable.{from_catalog}
 use Rattle.fleet_dump.specs.Printed.{change_item, items_text, Printed, PrintsLess, PrintsFront}
-use Rattle.fleet_dump.proofs.Listed.{all_front, all_rest}
+use Rattle.fleet_dump.proofs.Listed.{all_parts}
 use Rattle.fleet_dump.proofs.Progress.{printed_then, less_of_first, front_of_first}
 use Rattle.fleet_dump.proofs.newest.print_newest.Goals as goal
 
 pub print_facts-requires : goal.print_facts-requires
-print_facts-requires g c = let n = node_seen c.args.node.now in all_front IsChange (if_there (change_of n.facts)) (from_catalog n) c.requires
+print_facts-requires g c = let n = node_seen c.args.node.now in (all_parts IsChange (if_there (change_of n.facts)) (from_catalog n) c.requires).0
 
 pub print_from_catalog-requires : goal.print_from_catalog-requires
-print_from_catalog-requires g c = let n = node_seen c.args.node.now in all_rest IsChange (if_there (change_of n.facts)) (from_catalog n) c.requires
+print_from_catalog-requires g c = let n = node_seen c.args.node.now in (all_parts IsChange (if_there (change_of n.facts)) (from_catalog n) c.requires).1
 
 pub returns-in-Ok-clause-which : goal.returns-in-Ok-clause-which
 returns-in-Ok-clause-which g c =
