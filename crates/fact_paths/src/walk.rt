@@ -67,7 +67,8 @@ fn shown_rows(
     name: &Json,
     value: &Cell,
 ) -> Result<Rows, AllocError>
-    ensures { IfOk result (λ rows. rows ≡ map content_row (contents (cell_of certname.now) (cell_of environment.now) (plain (json_of name.now)) (cell_of value.now))) }
+    ensures { IfOk result (λ rows. rows
+        ≡ map content_row (contents (cell_of certname.now) (cell_of environment.now) (plain (json_of name.now)) (cell_of value.now))) }
 {
     match name {
         Json::Text(name) => named_rows(alloc, certname, environment, name, value),
@@ -82,7 +83,8 @@ fn named_rows(
     name: &Text,
     value: &Cell,
 ) -> Result<Rows, AllocError>
-    ensures { IfOk result (λ rows. rows ≡ map content_row (contents (cell_of certname.now) (cell_of environment.now) (plain (string name.now)) (cell_of value.now))) }
+    ensures { IfOk result (λ rows. rows
+        ≡ map content_row (contents (cell_of certname.now) (cell_of environment.now) (plain (string name.now)) (cell_of value.now))) }
 {
     match value {
         Cell::Plain(value) => {
