@@ -1,8 +1,9 @@
 /* The plain side of look.py: counted references that are taken along under a mutex.
    look steps STEPS ROUNDS: takes STEPS references along, ROUNDS times; prints the nanoseconds of all rounds together.
    look lanes COUNT LANES: one thread makes COUNT changes, and counts a while before each, as a worker decodes. Under the mutex each is
-   written to two files of the working folder, with a sync of each, and a reference is put on a shelf. Each of LANES threads takes along what it lacks, and sleeps a millisecond, until
-   the first is done; prints the nanoseconds that it took, and how often the others looked. */
+   written to two files of the working folder, with a sync of each, and a reference is put on a shelf. Each of LANES threads takes along
+   what it lacks, and sleeps eight milliseconds, until the first is done; prints the nanoseconds that it took, and how often the others
+   looked. */
 #include <fcntl.h>
 #include <pthread.h>
 #include <stdatomic.h>
@@ -52,7 +53,7 @@ static void *lane(void *unused) {
     while (!atomic_load(&done)) {
         seen = look(seen);
         atomic_fetch_add(&looks, 1);
-        usleep(1000);
+        usleep(8000);
     }
     return unused;
 }

@@ -3,10 +3,11 @@ program stands a plain loop in C (look.c), which takes as many counted reference
 
 Usage: look.py PROGRAM FOLDER [COUNT]
 PROGRAM is the built program, crates/stage_bench/out/stage_bench. FOLDER is one on the disk to be timed; looks and a second table have
-/dev/shm, where a sync costs nothing. COUNT commands wait on the disk, 1,000 if none is given, and fifty times as many in memory. One
-worker settles them beside 0, 1 and 8 lanes, each of which looks, applies what it lacks and sleeps a millisecond. Times are by the clock,
-the best of RUNS runs in which all take turns. A look holds the lock no longer than it takes. The lanes and the worker share the
-processors: where they are fewer than the threads, settling also loses what lanes apply. Needs `cc`.
+/dev/shm, where a sync costs nothing. COUNT commands wait on the disk, 10,000 if none is given, and ten times as many in memory. One
+worker settles them beside 0, 1 and 8 lanes, each of which looks, applies what it lacks and sleeps eight milliseconds: eight lanes look
+some 1,000 times a second together. Times are by the clock, the best of RUNS runs in which all take turns. A look holds the lock no longer
+than it takes. The lanes and the worker share the processors: where they are fewer than the threads, settling also loses what lanes apply.
+Needs `cc`.
 """
 import os
 import subprocess
@@ -62,13 +63,13 @@ def main():
     if len(sys.argv) < 3:
         sys.exit(__doc__)
     program, disk = os.path.abspath(sys.argv[1]), sys.argv[2]
-    count = int(sys.argv[3]) if len(sys.argv) > 3 else 1000
+    count = int(sys.argv[3]) if len(sys.argv) > 3 else 10_000
     with tempfile.TemporaryDirectory() as folder:
         plain = f"{folder}/look"
         source = os.path.join(os.path.dirname(os.path.abspath(__file__)), "look.c")
         subprocess.run(["cc", "-O2", "-pthread", "-o", plain, source], check=True)
         look_times(program, plain)
-        settle_times(program, plain, "/dev/shm", 50 * count)
+        settle_times(program, plain, "/dev/shm", 10 * count)
         settle_times(program, plain, disk, count)
 
 

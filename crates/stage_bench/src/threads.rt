@@ -1,7 +1,7 @@
 //! A hand, a worker and lanes in threads at one stage.
 //!
 //! `stage_bench lanes COMMANDS LANES`: COMMANDS commands wait, and then the worker settles them. Each lane looks, applies behind the hold
-//! what its tables lack, and sleeps a millisecond, until the worker is done. It prints the nanoseconds that all took, and the number of
+//! what its tables lack, and sleeps eight milliseconds, until the worker is done. It prints the nanoseconds that all took, and the number of
 //! looks; so a script can tell how much settling loses by looks.
 //!
 //! `stage_bench wakes COMMANDS LANES`: the hand sends each command when the tables have the one before, so the worker rests between
@@ -48,7 +48,7 @@ fn looked<D: Disk + Drop, K: Keeper + Drop, R: Wait>(
     }
 }
 
-/// Looks about once a millisecond, until the worker is done.
+/// Looks about every eight milliseconds, until the worker is done.
 fn ask_by<D: Disk + Drop, K: Keeper + Drop, R: Wait + Clock>(
     rt: &R,
     alloc: Global,
@@ -68,7 +68,7 @@ fn ask_by<D: Disk + Drop, K: Keeper + Drop, R: Wait + Clock>(
         }
         let _ = looked(rt, alloc, lock, lane, kept)?;
         looks.fetch_add(1, SeqCst);
-        thread::sleep(rt, Duration::from_millis(1));
+        thread::sleep(rt, Duration::from_millis(8));
     }
     unreachable!()
 }
