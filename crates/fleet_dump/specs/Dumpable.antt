@@ -26,7 +26,7 @@ newest_changes node = if_there (change_of node.facts) ++ from_catalog node
 abbrev pub IsDumpableNode : Node → Type 0
 IsDumpableNode node = AllByRecursion IsChange (node_changes node)
 
--- tables that stand for a history are such tables, and so are those that logs led to
+-- whoever writes a dump of tables shows this of them
 pub record IsDumpable (table : Table) : Type 0 where
   pub expiry : IfMoment table.expiry
   pub retention : IfMoment table.retention
